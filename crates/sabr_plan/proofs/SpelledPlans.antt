@@ -27,8 +27,8 @@ use Rattle.sabr_plan.proofs.Spelling.{time_of_tells}
 use Rattle.sabr_plan.proofs.SpelledNumbers.{number_within-range}
 use Rattle.std.proofs.lemmas.List.{take_more, take-append-drop}
 use Rattle.std.proofs.lemmas.List.Concat.{flat_map-append}
-use Rattle.sabr_model.specs.Devices.{Output, Written, WrittenInPart, WritesText}
-use Rattle.sabr_model.proofs.ListLemmas.WrittenTexts.{Written-append, WrittenInPart-after, WrittenInPart-more, WritesText-after}
+use Rattle.sabr_model.specs.Devices.{Output, Written, WrittenInPart}
+use Rattle.sabr_model.proofs.ListLemmas.WrittenTexts.{WrittenInPart-after, WrittenInPart-more}
 use Rattle.sabr_model.specs.declared.fault.AddFault.TheVariants as add
 use Rattle.sabr_plan.specs.declared.fault.PlanKind.TheVariants as kind
 
@@ -234,19 +234,3 @@ stopped_at line xs i d h bytes is a b c before part =
     let own : WrittenInPart b (line (get_or xs i d)) c = rw is at part in
     rw (flat_map-parted line xs i d h)
     (WrittenInPart-more a c (flat_map line (take i xs) ++ line (get_or xs i d)) (flat_map line (drop (i + 1) xs)) (WrittenInPart-after a b c (flat_map line (take i xs)) (line (get_or xs i d)) before own))
-
--- a text of four parts, as far as it was written
-module _ (a z : Output) (one two three four : List ℕ) where
-  pub stopped_in_one : WrittenInPart a one z → WrittenInPart a (((one ++ two) ++ three) ++ four) z
-  stopped_in_one p = WrittenInPart-more a z ((one ++ two) ++ three) four (WrittenInPart-more a z (one ++ two) three (WrittenInPart-more a z one two p))
-
-  module _ (b : Output) (first : Written a one b) where
-    pub stopped_in_two : WrittenInPart b two z → WrittenInPart a (((one ++ two) ++ three) ++ four) z
-    stopped_in_two p = WrittenInPart-more a z ((one ++ two) ++ three) four (WrittenInPart-more a z (one ++ two) three (WrittenInPart-after a b z one two first p))
-
-    module _ (c : Output) (second : Written b two c) where
-      pub stopped_in_three : WrittenInPart c three z → WrittenInPart a (((one ++ two) ++ three) ++ four) z
-      stopped_in_three p = WrittenInPart-more a z ((one ++ two) ++ three) four (WrittenInPart-after a c z (one ++ two) three (Written-append a b c one two first second) p)
-
-      pub at_last : {A E : Type 0} (d : Output) (r : Result A E) → Written c three d → WritesText d four r z → WritesText a (((one ++ two) ++ three) ++ four) r z
-      at_last d r third p = WritesText-after a d z ((one ++ two) ++ three) four r (Written-append a c d (one ++ two) three (Written-append a b c one two first second) third) p

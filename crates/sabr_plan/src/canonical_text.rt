@@ -3,11 +3,11 @@
 ghost use Rattle.std.specs.Prelude.{◌≡◌, ◌++◌, List, ℕ};
 ghost use Rattle.std.specs.List.{flat_map};
 ghost use Rattle.sabr_model.specs.Devices.{WritesText};
-ghost use Rattle.sabr_plan.specs.Canonical.{contact_line, range_line, canonical_text, digest_of};
+ghost use Rattle.sabr_plan.specs.Canonical.{canonical_text, digest_of};
 ghost use Rattle.sha2.specs.Hashers.{Holds256};
 
-use crate::record_line::RecordLine;
-use sabr_model::{Contact, Plan, Range, Write, WriteFault, write_text};
+use crate::record_line::Record;
+use sabr_model::{Plan, Write, WriteFault, write_text};
 use sha2::{Digest, Sha256};
 use std::alloc::Allocator;
 
@@ -33,27 +33,17 @@ pub fn canonical<W: Write, A: Allocator + Copy>(
     ensures { WritesText (W.output writer.old) (canonical_text plan.now.plan) result (W.output writer.new) }
 {
     write_text(writer, FIRST_LINE)?;
-    write_contacts(plan.contacts(), writer)?;
-    write_ranges(plan.ranges(), writer)?;
+    write_lines(plan.contacts(), writer)?;
+    write_lines(plan.ranges(), writer)?;
     write_text(writer, LAST_LINE)
 }
 
-/// Writes the lines of contacts.
-fn write_contacts<W: Write>(contacts: &[Contact], writer: &mut W) -> Result<(), WriteFault>
-    ensures { WritesText (W.output writer.old) (flat_map contact_line contacts.now) result (W.output writer.new) }
+/// Writes the lines of records.
+fn write_lines<T: Record, W: Write>(records: &[T], writer: &mut W) -> Result<(), WriteFault>
+    ensures { WritesText (W.output writer.old) (flat_map T.line_of records.now) result (W.output writer.new) }
 {
-    for contact in contacts {
-        write_text(writer, RecordLine::of_contact(contact).as_bytes())?;
-    }
-    Ok(())
-}
-
-/// Writes the lines of ranges.
-fn write_ranges<W: Write>(ranges: &[Range], writer: &mut W) -> Result<(), WriteFault>
-    ensures { WritesText (W.output writer.old) (flat_map range_line ranges.now) result (W.output writer.new) }
-{
-    for range in ranges {
-        write_text(writer, RecordLine::of_range(range).as_bytes())?;
+    for record in records {
+        write_text(writer, record.line().as_bytes())?;
     }
     Ok(())
 }
@@ -65,26 +55,17 @@ pub fn digest<A: Allocator + Copy>(plan: &Plan<A>) -> [u8; 32]
 {
     let mut hasher = Sha256::new();
     hasher.update(FIRST_LINE);
-    feed_contacts(plan.contacts(), &mut hasher);
-    feed_ranges(plan.ranges(), &mut hasher);
+    feed_lines(plan.contacts(), &mut hasher);
+    feed_lines(plan.ranges(), &mut hasher);
     hasher.update(LAST_LINE);
     hasher.finalize()
 }
 
-/// Feeds the lines of contacts to a hasher.
-fn feed_contacts(contacts: &[Contact], hasher: &mut Sha256)
-    ensures { (m : List ℕ) → Holds256 hasher.old m → Holds256 hasher.new (m ++ flat_map contact_line contacts.now) }
+/// Feeds the lines of records to a hasher.
+fn feed_lines<T: Record>(records: &[T], hasher: &mut Sha256)
+    ensures { (m : List ℕ) → Holds256 hasher.old m → Holds256 hasher.new (m ++ flat_map T.line_of records.now) }
 {
-    for contact in contacts {
-        hasher.update(RecordLine::of_contact(contact).as_bytes());
-    }
-}
-
-/// Feeds the lines of ranges to a hasher.
-fn feed_ranges(ranges: &[Range], hasher: &mut Sha256)
-    ensures { (m : List ℕ) → Holds256 hasher.old m → Holds256 hasher.new (m ++ flat_map range_line ranges.now) }
-{
-    for range in ranges {
-        hasher.update(RecordLine::of_range(range).as_bytes());
+    for record in records {
+        hasher.update(record.line().as_bytes());
     }
 }

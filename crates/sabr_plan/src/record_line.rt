@@ -1,7 +1,8 @@
 //! A line of the canonical text of a plan, in a fixed array. It is made from its end to its front, since the last digit of
 //! a number is known first, and then no byte is copied.
 
-ghost use Rattle.std.specs.Prelude.{◌≡◌, ◌+◌, ◌*◌, ◌<◌, ◌≤◌, [], ◌∷◌, ◌++◌, decimal, length};
+ghost use Rattle.std.specs.Prelude.{◌≡◌, ℕ, List, ◌+◌, ◌<◌, ◌≤◌, [], ◌∷◌, ◌++◌, decimal, length};
+ghost use Rattle.sabr_plan.specs.Canonical.{contact_line, range_line};
 
 use itoa::write_digits;
 use sabr_model::{Contact, Range};
@@ -30,41 +31,6 @@ impl Model for RecordLine {
 }
 
 impl RecordLine {
-    ghost use Rattle.sabr_plan.specs.Canonical.{contact_line, range_line};
-
-    /// Returns the line of a contact, with its LF.
-    #[inline(always)]
-    #[tactic(auto, unfolding(crate::specs::Canonical::contact_line))]
-    pub fn of_contact(contact: &Contact) -> RecordLine
-        ensures { result ≡ contact_line contact.now }
-    {
-        let mut line = RecordLine::ended();
-        line.put_number(contact.rate);
-        line.put_number(contact.to);
-        line.put_number(contact.from);
-        line.put_number(contact.end);
-        line.put_number(contact.start);
-        line.put_number(contact.number as u64);
-        line.put(b'c');
-        line
-    }
-
-    /// Returns the line of a range, with its LF.
-    #[inline(always)]
-    #[tactic(auto, unfolding(crate::specs::Canonical::range_line))]
-    pub fn of_range(range: &Range) -> RecordLine
-        ensures { result ≡ range_line range.now }
-    {
-        let mut line = RecordLine::ended();
-        line.put_number(range.light as u64);
-        line.put_number(range.end);
-        line.put_number(range.start);
-        line.put_number(range.other);
-        line.put_number(range.one);
-        line.put(b'r');
-        line
-    }
-
     /// The line's bytes.
     pub fn as_bytes(&self) -> &[u8]
         ensures { result.now ≡ self.now }
@@ -101,5 +67,50 @@ impl RecordLine {
     {
         self.start -= 1;
         self.bytes[self.start] = byte;
+    }
+}
+
+/// A record of a plan, which has a line in the plan's canonical text.
+pub trait Record {
+    /// The line, with its LF.
+    ghost line_of: { Self → List ℕ };
+
+    /// Returns the line, with its LF.
+    fn line(&self) -> RecordLine
+        ensures { result ≡ line_of self.now };
+}
+
+impl Record for Contact {
+    ghost line_of = { contact_line };
+
+    #[inline(always)]
+    #[tactic(auto, unfolding(crate::specs::Canonical::contact_line))]
+    fn line(&self) -> RecordLine {
+        let mut line = RecordLine::ended();
+        line.put_number(self.rate);
+        line.put_number(self.to);
+        line.put_number(self.from);
+        line.put_number(self.end);
+        line.put_number(self.start);
+        line.put_number(self.number as u64);
+        line.put(b'c');
+        line
+    }
+}
+
+impl Record for Range {
+    ghost line_of = { range_line };
+
+    #[inline(always)]
+    #[tactic(auto, unfolding(crate::specs::Canonical::range_line))]
+    fn line(&self) -> RecordLine {
+        let mut line = RecordLine::ended();
+        line.put_number(self.light as u64);
+        line.put_number(self.end);
+        line.put_number(self.start);
+        line.put_number(self.other);
+        line.put_number(self.one);
+        line.put(b'r');
+        line
     }
 }
