@@ -15,9 +15,7 @@ pub fn contacts_without_light<A: Allocator + Copy>(plan: &Plan<A>) -> usize
     let mut count = 0;
     for place in 0..plan.contacts().len() {
         let (_number, hop) = plan.hop_at(place);
-        if hop.light.is_none() {
-            count += 1;
-        }
+        count += hop.light.is_none() as usize;
     }
     count
 }
