@@ -23,9 +23,7 @@ use Rattle.std.proofs.lemmas.List.Recursion.{or_from_places}
 use Rattle.sabr_model.specs.declared.contact.Range.{Range}
 use Rattle.sabr_model.specs.Order.{by_key, put_in}
 use Rattle.sabr_model.specs.plan.Plan.{IsPlan, IsNode, last_time, overlap, range_key}
-use Rattle.sabr_model.specs.plan.Adding.{begins, by_range_key, first_refusal, range_refusal}
-use Rattle.sabr_model.specs.declared.fault.AddFault.{AddFault}
-use Rattle.sabr_model.specs.declared.fault.AddFault.TheVariants.{RangeOverlap}
+use Rattle.sabr_model.specs.plan.Adding.{begins, by_range_key, range_refusal}
 use Rattle.sabr_model.specs.plan.RangeOrder.{IsRangeList, IsCountUntil}
 use Rattle.sabr_model.proofs.PlanLemmas.KeyOrder.{IsBy, by_key_total, less_is, le_is, is_le_by, by_more}
 use Rattle.sabr_model.proofs.PlanLemmas.RangeOrder.{range_list, key_at, overlap_parts, overlap_told}
@@ -263,11 +261,6 @@ planted_more rs k d es plan lt is =
     ap (λ xs. insert_entry by_key xs (range_key r) r) is
     ∙ insert_first r (drop (k + 1) rs) after
     ∙ ap (map keyed) (sym (drop-cons rs k d lt ∙ ap (λ m. r ∷ drop m rs) (sym next)))
-
--- what is refused
-pub refused_by : (r : Range) (rs all : List Range) (clash : Bool) (count : ℕ) (o : Option AddFault) → rs ≡ all → clash ≡ list_any (overlap r) all → count ≡ length rs → o ≡ first_refusal r.one r.other r.start r.end clash RangeOverlap count → o ≡ range_refusal (plan_of_ranges rs) r
-refused_by r rs all clash count o same any many is =
-    is ∙ ap (λ b. first_refusal r.one r.other r.start r.end b RangeOverlap count) (any ∙ ap (list_any (overlap r)) (sym same)) ∙ ap (first_refusal r.one r.other r.start r.end (list_any (overlap r) rs) RangeOverlap) many
 
 module _ (m n : BTreeMap Key Range) (h : IsRangeTree m) where
   abbrev rs : List Range

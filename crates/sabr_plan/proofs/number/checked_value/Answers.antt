@@ -8,9 +8,6 @@ some : (word : List ℕ) (value : ℕ) → value ≡ digits_value 10 word → 0 
 some [] value e h = absurd (omega arith)
 some (b ∷ word) value e h = omega arith
 
-pub starts_amiss-requires : goal.starts_amiss-requires
-starts_amiss-requires c = some c.args.word.now c.args.value c.requires.stands
-
 pub returns-clause-value : goal.returns-clause-value
 returns-clause-value c =
     let h = c.requires in

@@ -1,16 +1,10 @@
-use Rattle.std.proofs.Common.{◌≡◌, ◌∙◌, ◌+◌, ◌-◌, length, get_or, map, drop, sym, ap, arith}
+use Rattle.std.proofs.Common.{◌≡◌, ◌∙◌, ◌+◌, ◌-◌, get_or, map, drop, ap, arith}
 use Rattle.std.specs.BTreeMap.{insert_entry}
-use Rattle.std.proofs.lemmas.List.{drop_all}
 use Rattle.sabr_model.specs.Order.{by_key}
 use Rattle.sabr_plan.specs.Gathering.{keyed}
 use Rattle.sabr_plan.proofs.SortedRanges.{no_range}
 use Rattle.sabr_plan.proofs.RangeTrees.{tree_of, planted_more}
 use Rattle.sabr_plan.proofs.gathering.range_tree.plant.Goals as goal
-
-pub loop-left-init : goal.loop-left-init
-loop-left-init g c =
-    let rs = c.args.ranges.now in
-    (omega arith, c.new-planted.ensures.empty ∙ sym (ap (map keyed) (drop_all (length rs) rs (omega arith))))
 
 pub invariant_of-result : goal.invariant_of-result
 invariant_of-result g c =

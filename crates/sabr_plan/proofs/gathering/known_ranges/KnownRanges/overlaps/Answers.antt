@@ -1,5 +1,5 @@
 -- A range that begins after all others end overlaps none. Else it is looked for along a chain.
-use Rattle.std.proofs.Common.{◌∙◌, sym, arith}
+use Rattle.std.proofs.Common.{◌∙◌, sym}
 use Rattle.sabr_plan.proofs.SortedRanges.{later_end, overlaps_none}
 use Rattle.sabr_plan.proofs.gathering.known_ranges.KnownRanges.overlaps.Goals as goal
 
@@ -8,6 +8,3 @@ returns-then-in_key_order-clause-value g c = sym (overlaps_none c.args.range.now
 
 pub returns-then-in_key_order-clause-rises : goal.returns-then-in_key_order-clause-rises
 returns-then-in_key_order-clause-rises g c = λ up. later_end _ _ _ (sym c.in_key_order.ensures ∙ c.if-in_key_order.true) (c.requires.1 up)
-
-pub returns-clause-value : goal.returns-clause-value
-returns-clause-value g c = let told = sym c.is_none.ensures ∙ c.walk_chain-walked.ensures in grind (arith, told)

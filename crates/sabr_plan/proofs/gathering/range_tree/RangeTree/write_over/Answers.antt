@@ -5,27 +5,6 @@ use Rattle.sabr_plan.proofs.RangeTrees.{left_at}
 use Rattle.sabr_plan.proofs.SortedRanges.{no_range}
 use Rattle.sabr_plan.proofs.gathering.range_tree.RangeTree.write_over.Goals as goal
 
-pub loop-range-init : goal.loop-range-init
-loop-range-init g c = record {
-  long = c.requires;
-  left = sym c.self.view_is ∙ sym c.values-range-items.ensures.rest ∙ sym c.into_iter-range-iterator.ensures.into_iter_gives;
-  same = λ k d lt. absurd (omega (arith, lt));
-}
-
-pub index_mut-requires : goal.index_mut-requires
-index_mut-requires g c =
-    let i = c.loop-range.invariant in
-    let at = left_at c.args.self.now c.loop-range.place no_range c.in-Some.range.now c.next.new.self (i.left ∙ (c.in-Some.ensures {u = tt}).steps) in
-    let lt = at.0 in
-    omega (arith, lt, i.long, c.loop-range.list.ok.0)
-
-pub overflow_add-place : goal.overflow_add-place
-overflow_add-place g c =
-    let i = c.loop-range.invariant in
-    let at = left_at c.args.self.now c.loop-range.place no_range c.in-Some.range.now c.next.new.self (i.left ∙ (c.in-Some.ensures {u = tt}).steps) in
-    let lt = at.0 in
-    omega (arith, lt, i.long, c.loop-range.list.ok.0, c.loop-range.list.small)
-
 pub loop-range-preserved : goal.loop-range-preserved
 loop-range-preserved g c =
     let i = c.loop-range.invariant in
