@@ -7,26 +7,27 @@ use Rattle.std.specs.Map.{lookup, remove_entry, values_of}
 use Rattle.std.specs.BTreeMap.{BTreeMap, get, insert_entry, is_at, values}
 use Rattle.std.specs.BTreeMap.Range.{IsRangeOf}
 use Rattle.std.specs.declared.ops.Bound.TheVariants.{Excluded, Unbounded}
-use Rattle.std.specs.Ordering.{nat_cmp, ordering_then, ordering_reverse, match_ordering, is_eq, is_lt, is_le}
+use Rattle.std.specs.Ordering.{nat_cmp, ordering_then, ordering_reverse, match_ordering, is_eq, is_lt}
 use Rattle.std.specs.Cmp.{both_tied, unsigned_ties}
 use Rattle.std.specs.declared.cmp.Ordering.{Ordering}
 use Rattle.std.specs.declared.cmp.Ordering.TheVariants.{Less, Equal, Greater}
 use Rattle.std.specs.declared.option.Option.{Option}
 use Rattle.std.specs.declared.option.Option.TheVariants.{Some, None}
-use Rattle.std.proofs.lemmas.Bool.{and_parts, cases_Bool, cases_eq, cases_lt, both_ways, eqb-true, false_from_ne_true}
+use Rattle.std.proofs.lemmas.Bool.{cases_order, and_parts, cases_Bool, cases_lt, both_ways, eqb-true, false_from_ne_true}
 use Rattle.std.proofs.lemmas.Bool.Decides.{nat_tests}
 use Rattle.std.proofs.lemmas.Cmp.{tied_itself}
 use Rattle.std.proofs.lemmas.Map.Entries.{lookup_head, lookup_tail}
 use Rattle.std.proofs.lemmas.Option.{none-some, same_Some}
-use Rattle.std.proofs.lemmas.List.{get_or-drop, get_or_default, drop_more}
+use Rattle.std.proofs.lemmas.List.{get_or-drop, get_or_default}
+use Rattle.std.proofs.lemmas.List.Folds.{list_any_at}
 use Rattle.std.proofs.lemmas.List.Recursion.{or_from_places}
 use Rattle.sabr_model.specs.declared.contact.Range.{Range}
 use Rattle.sabr_model.specs.Order.{by_key, put_in}
 use Rattle.sabr_model.specs.plan.Plan.{IsPlan, IsNode, last_time, overlap, range_key}
 use Rattle.sabr_model.specs.plan.Adding.{begins, by_range_key, range_refusal}
-use Rattle.sabr_model.specs.plan.RangeOrder.{IsRangeList, IsCountUntil}
-use Rattle.sabr_model.proofs.PlanLemmas.KeyOrder.{IsBy, by_key_total, less_is, le_is, is_le_by, by_more}
-use Rattle.sabr_model.proofs.PlanLemmas.RangeOrder.{range_list, key_at, overlap_parts, overlap_told}
+use Rattle.sabr_model.specs.plan.RangeOrder.{IsRangeList}
+use Rattle.sabr_model.proofs.PlanLemmas.KeyOrder.{IsBy, by_key_total, less_is, not_less_is, not_both}
+use Rattle.sabr_model.proofs.PlanLemmas.RangeOrder.{range_list, key_at, overlap_parts}
 use Rattle.sabr_model.proofs.PlanLemmas.RangeLemmas.{accepted_range, IsPlan-range}
 use Rattle.sabr_model.proofs.PlanLemmas.Deletions.{IsPlan-fewer_ranges}
 use Rattle.sabr_plan.specs.Gathering.{keyed, plan_of_ranges, IsRangeTree}
@@ -156,6 +157,21 @@ found_is asks (r ∷ rs) s is =
           (suc rest.0, omega (arith, lt), rest.2, rest.3)
     ]
 
+overlap_from : (r s : Range) → r.one ≡ s.one → r.other ≡ s.other → r.start < s.end → s.start < r.end → overlap r s ≡ true
+overlap_from r s one other a b = grind (arith, nat_tests)
+
+-- between a range that it overlaps and its end it overlaps each
+squeezed : (r x s : Range) → overlap r x ≡ true → IsBy 0 (range_key x) (range_key s) → IsBy 1 (range_key s) (r.one, r.other, r.end) → s.start < s.end → overlap x s ≡ false → overlap r s ≡ true
+squeezed r x s both up low window apart =
+    let p = overlap_parts r x both in
+    let one : r.one ≡ s.one = omega (arith, p.0, up.first, low.first) in
+    let other : r.other ≡ s.other = omega (arith, p.1, up.second (sym p.0 ∙ one), low.second (sym one)) in
+    let from = up.third (sym p.0 ∙ one) (sym p.1 ∙ other) in
+    elim (cases_lt s.start x.end) [
+      | inl early ↦ absurd (both_ways (overlap x s) apart (overlap_from x s (sym p.0 ∙ one) (sym p.1 ∙ other) (omega (arith, from, window)) early))
+      | inr late ↦ overlap_from r s one other (omega (arith, p.2, late, window)) (let until = low.third (sym one) (sym other) in omega (arith, until))
+    ]
+
 module _ (m : BTreeMap Key Range) (rs : List Range) (holds : m.entries ≡ map keyed rs) (sorted : IsStrictlySortedBy by_key (map range_key rs)) (h : IsRangeList rs) (r : Range) (span : List (Key × Range)) (lies : IsRangeOf by_key Unbounded (Excluded (r.one, r.other, r.end)) m span) where
   abbrev bound : Key
   bound = (r.one, r.other, r.end)
@@ -184,57 +200,27 @@ module _ (m : BTreeMap Key Range) (rs : List Range) (holds : m.entries ≡ map k
       let found = found_is (is_at (by_key e.0)) rs e.1 (sym (ap (lookup (is_at (by_key e.0))) holds) ∙ own.1) in
       let i = found.0 in
       let lt : i < length rs = found.1 in
-      let at : (d : Range) → get_or rs i d ≡ e.1 = found.2 in
+      let at : get_or rs i no_range ≡ e.1 = found.2 no_range in
       let key = parts e.0.0 e.0.1 e.0.2 e.1 (tied e.0.0 e.0.1 e.0.2 e.1 ∙ found.3) in
-      let low = less_is e.0 bound own.0.1 in
-      elim (cases_eq r.end 0) [
-        | inl empty ↦
-            or_from_places (list_any (overlap r)) (overlap r) refl (λ x ys. refl) rs no_range (λ k lt. false_from_ne_true (overlap r (get_or rs k no_range)) (λ both. let late = (overlap_parts r (get_or rs k no_range) both).3 in absurd (omega (arith, late, empty))))
-            ∙ sym (false_from_ne_true (overlap r e.1) (λ both. let late = (overlap_parts r e.1 both).3 in absurd (omega (arith, late, empty))))
-        | inr some ↦
-            let upper : IsBy 0 (range_key e.1) (r.one, r.other, r.end - 1) = record {
-              first = let a = low.first in omega (arith, a, key.0);
-              second = λ x. let b = low.second (key.0 ∙ x) in omega (arith, b, key.1);
-              third = λ x y. let c = low.third (key.0 ∙ x) (key.1 ∙ y) in omega (arith, c, key.2);
-            } in
-            let count : IsCountUntil rs (r.one, r.other, r.end - 1) (i + 1) = record {
-              within = omega (arith, lt);
-              point = (
-                λ k d from less. is_le_by (range_key (get_or rs k d)) (r.one, r.other, r.end - 1) (elim (cases_lt k i) [
-                  | inl before ↦ by_more (less_is (range_key (get_or rs k d)) (range_key (get_or rs i d)) (h.rises k i d before lt)) (subst (λ x. IsBy 0 (range_key x) (r.one, r.other, r.end - 1)) (sym (at d)) upper)
-                  | inr not_before ↦
-                      let here : k ≡ i = omega (arith, less, not_before) in
-                      subst (λ x. IsBy 0 (range_key x) (r.one, r.other, r.end - 1)) (sym (ap (λ j. get_or rs j d) here ∙ at d)) upper
-                ]),
-                λ k d after less. false_from_ne_true (is_le (by_key (range_key (get_or rs k d)) (r.one, r.other, r.end - 1))) (λ low_too.
-                    let x = get_or rs k d in
-                    let le = le_is (range_key x) (r.one, r.other, r.end - 1) low_too in
-                    let early : by_key (range_key x) bound ≡ Less = less_by (range_key x) bound (record { first = le.first; second = le.second; third = λ a b. let c = le.third a b in omega (arith, c, some) }) in
-                    let greatest = lies.4 e t is (range_key x) (tt, early) (ap is_some (there k d less)) in
-                    let rise : by_key (range_key e.1) (range_key x) ≡ Less = subst (λ y. by_key (range_key y) (range_key x) ≡ Less) (at d) (h.rises i k d (omega (arith, after)) less) in
-                    let step = less_is (range_key e.1) (range_key x) rise in
-                    let less_key = less_by e.0 (range_key x) (record {
-                      first = let a = step.first in omega (arith, a, key.0);
-                      second = λ u. let b = step.second (sym key.0 ∙ u) in omega (arith, b, key.1);
-                      third = λ u v. let d = step.third (sym key.0 ∙ u) (sym key.1 ∙ v) in omega (arith, d, key.2);
-                    }) in
-                    both_ways (is_lt (by_key e.0 (range_key x))) greatest (ap is_lt less_key)),
-              );
-            } in
-            overlap_told rs h r (i + 1) e.1 count (λ zero_too. omega (arith, zero_too))
-            ∙ ap (λ j. overlap r (get_or rs j e.1)) (let back : i + 1 - 1 ≡ i = omega arith in back)
-            ∙ ap (overlap r) (at e.1)
+      let key_is : e.0 ≡ range_key e.1 = λ j. (key.0 j, key.1 j, key.2 j) in
+      let low = less_is (range_key e.1) bound (subst (λ x. by_key x bound ≡ Less) key_is own.0.1) in
+      elim (cases_Bool (overlap r e.1)) [
+        | inl meets ↦ list_any_at (overlap r) rs i no_range lt (ap (overlap r) at ∙ meets) ∙ sym meets
+        | inr apart ↦
+            or_from_places (list_any (overlap r)) (overlap r) refl (λ x ys. refl) rs no_range (λ k less.
+            false_from_ne_true (overlap r (get_or rs k no_range)) (λ both.
+            let x = get_or rs k no_range in
+            let greatest = lies.4 e t is (range_key x) (tt, before_end x both) (ap is_some (there k no_range less)) in
+            let up = not_less_is (range_key e.1) (range_key x) (subst (λ y. is_lt (by_key y (range_key x)) ≡ false) key_is greatest) in
+            elim (cases_order k i) [
+              | inl same ↦ both_ways (overlap r e.1) apart (sym (ap (overlap r) (ap (λ j. get_or rs j no_range) same ∙ at)) ∙ both)
+              | inr (inl before) ↦
+                  both_ways (overlap r e.1) apart (squeezed r x e.1 both up low
+                  (subst (λ y. y.start < y.end) at (h.windows i no_range lt)) (subst (λ y. overlap x y ≡ false) at (h.apart k i no_range before lt)))
+              | inr (inr after) ↦ not_both up (less_is (range_key e.1) (range_key x) (subst (λ y. by_range_key y x ≡ Less) at (h.rises i k no_range after less)))
+            ]))
+            ∙ sym apart
       ]
-
--- ---- the list of the ranges
-
--- what is left of a list begins with the element at its place
-pub left_at : {X : Type 0} (xs : List X) (i : ℕ) (d x : X) (left : List X) → drop i xs ≡ x ∷ left → (i < length xs) × (get_or xs i d ≡ x) × (drop (i + 1) xs ≡ left)
-left_at xs i d x left is =
-    let many : length (drop i xs) ≡ suc (length left) = ap length is in
-    let lt : i < length xs = omega (arith, many, length-drop i xs) in
-    let parts = sym (drop_more xs i d lt) ∙ is in
-    (lt, ap (λ ys. get_or ys 0 d) parts, ap (drop 1) parts)
 
 -- ---- trees
 

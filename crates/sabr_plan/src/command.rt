@@ -89,10 +89,7 @@ fn reference_of(text: &[u8]) -> Result<Command, PlanKind>
     let Some(word) = one_word(text) else {
         return Err(PlanKind::WrongOperands);
     };
-    match absolute_time(word) {
-        Ok(time) => Ok(Command::SetReference(time)),
-        Err(kind) => Err(kind),
-    }
+    Ok(Command::SetReference(absolute_time(word)?))
 }
 
 /// Returns the kind of record that the word after `a` or `d` names.

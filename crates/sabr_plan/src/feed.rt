@@ -115,7 +115,12 @@ impl<A: Allocator + Copy> PlanFeed<A> {
     {
         self.end_text()?;
         let fault = self.fault(PlanKind::NoMemory);
-        match self.into_plan() {
+        let PlanFeed {
+            lines: _,
+            reading,
+            held: _,
+        } = self;
+        match reading.into_plan() {
             Ok(plan) => Ok(plan),
             Err(NoMemory) => Err(fault),
         }
@@ -135,27 +140,12 @@ impl<A: Allocator + Copy> PlanFeed<A> {
         Ok(())
     }
 
-    /// Returns the plan that the lines build.
-    fn into_plan(self) -> Result<Plan<A>, NoMemory>
-        ensures { IfOk result (λ p. p.plan ≡ self.reading.plan) }
-    {
-        let PlanFeed {
-            lines: _,
-            reading,
-            held: _,
-        } = self;
-        reading.into_plan()
-    }
-
     /// Returns the fault of a text whose reader failed.
     pub fn failed(&self) -> PlanFault
         ensures kind { result.kind ≡ kind.Read }
         ensures value { outcome self.now [] false ≡ Err result }
     {
-        PlanFault {
-            line: self.lines + 1,
-            kind: PlanKind::Read,
-        }
+        self.fault(PlanKind::Read)
     }
 
     /// Returns the fault of this kind in the line after those that have ended.
@@ -176,14 +166,10 @@ impl<A: Allocator + Copy> PlanFeed<A> {
         ensures { EndsLine self.old back.now result self.new }
     {
         let lines = self.lines + 1;
-        match self.take_line(back) {
-            Ok(()) => {
-                self.lines = lines;
-                self.held.clear();
-                Ok(())
-            }
-            Err(kind) => Err(kind),
-        }
+        self.take_line(back)?;
+        self.lines = lines;
+        self.held.clear();
+        Ok(())
     }
 
     /// Ends this line, whose command was read. No other byte is held.
@@ -241,11 +227,10 @@ impl<A: Allocator + Copy> PlanFeed<A> {
         ensures held { IsTrue (is_one_line self.old.held) }
         ensures err { IfErr result (λ f. (f ≡ broken_line (self.old.lines + 1) (self.old.held ++ bytes.now)) × (f.kind ≢ kind.Read)) }
     {
-        let full = self.lines >= MAX_LINES;
         if bytes.is_empty() {
             return Ok(());
         }
-        if full {
+        if self.lines >= MAX_LINES {
             return Err(self.fault(PlanKind::TooMany));
         }
         if bytes.len() > MAX_LINE_BYTES - self.held.len() {

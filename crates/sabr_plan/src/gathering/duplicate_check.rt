@@ -94,7 +94,7 @@ pub fn find_standing<A: Allocator + Copy>(
     ensures treed { IsTreed tree.new.indexes tree.new.treed contacts.now }
 {
     if tree.is_due(contacts.len()) {
-        return find_in_tree(tree, contacts, opening);
+        return tree.find(contacts, opening);
     }
     let chained = chains.add_all(BUCKETS, contacts, |c| bucket_of(c.from, c.to, c.start));
     let Ok(()) = chained else {
@@ -103,27 +103,6 @@ pub fn find_standing<A: Allocator + Copy>(
     let (found, walked) = find_in_chain(contacts, &chains.befores, &chains.lasts, opening);
     tree.count(walked);
     found
-}
-
-/// Returns the index of the contact that stands and has this opening, or `None`. It is a pass over the contacts if an
-/// allocation for the tree fails.
-#[tactic(auto, using(crate::proofs::GatheredOpenings::by_pass))]
-#[cold]
-#[inline(never)]
-fn find_in_tree<A: Allocator + Copy>(
-    tree: &mut OpeningTree<A>,
-    contacts: &[Contact],
-    opening: &Opening,
-) -> Option<usize>
-    requires treed { IsTreed tree.old.indexes tree.old.treed contacts.now }
-    requires apart { IsTrue (none_twice same_opening (standing contacts.now)) }
-    ensures found { IsFound opening.now contacts.now result }
-    ensures treed { IsTreed tree.new.indexes tree.new.treed contacts.now }
-{
-    let Ok(()) = tree.add_all(contacts) else {
-        return find_by_pass(contacts, opening);
-    };
-    tree.find(contacts, opening)
 }
 
 /// Returns true if the contact stands and has this opening.

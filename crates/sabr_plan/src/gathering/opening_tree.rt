@@ -4,7 +4,7 @@ ghost use Rattle.std.specs.Prelude.{◌≡◌, ◌<◌, ◌+◌, IsTrue, OnOk, l
 ghost use Rattle.sabr_model.specs.plan.Plan.{same_opening, none_twice};
 ghost use Rattle.sabr_plan.specs.Gathering.{IsFound, IsTreed, standing};
 
-use crate::gathering::duplicate_check::stands_at;
+use crate::gathering::duplicate_check::{find_by_pass, stands_at};
 use sabr_model::{Contact, Opening};
 use std::alloc::{AllocError, Allocator};
 use std::collections::BTreeMap;
@@ -83,12 +83,20 @@ impl<A: Allocator + Copy> OpeningTree<A> {
         Ok(())
     }
 
-    /// Returns the index of the contact that stands and has this opening, or `None`. All contacts are in the tree.
-    pub fn find(&self, contacts: &[Contact], opening: &Opening) -> Option<usize>
-        requires treed { IsTreed self.now.indexes self.now.treed contacts.now }
-        requires all { self.now.treed ≡ length contacts.now }
-        ensures { IsFound opening.now contacts.now result }
+    /// Returns the index of the contact that stands and has this opening, or `None`. It is a pass over the contacts if an
+    /// allocation for the tree fails.
+    #[tactic(auto, using(crate::proofs::GatheredOpenings::by_pass))]
+    #[cold]
+    #[inline(never)]
+    pub fn find(&mut self, contacts: &[Contact], opening: &Opening) -> Option<usize>
+        requires treed { IsTreed self.old.indexes self.old.treed contacts.now }
+        requires apart { IsTrue (none_twice same_opening (standing contacts.now)) }
+        ensures found { IsFound opening.now contacts.now result }
+        ensures treed { IsTreed self.new.indexes self.new.treed contacts.now }
     {
+        let Ok(()) = self.add_all(contacts) else {
+            return find_by_pass(contacts, opening);
+        };
         let Some(index) = self.indexes.get(&(opening.from, opening.to, opening.start)) else {
             return None;
         };

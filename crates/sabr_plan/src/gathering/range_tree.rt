@@ -99,10 +99,9 @@ impl<A: Allocator + Copy> RangeTree<A> {
         ensures value { list.new.items ≡ self.now }
         ensures rules { IsPlan (plan_of_ranges self.now) }
     {
-        let mut place = 0;
+        list.clear();
         for range in self.ranges.values() {
-            list[place] = *range;
-            place += 1;
+            list.push_reserved(*range);
         }
     }
 

@@ -42,6 +42,6 @@ loop-place-preserved g c =
     let more = length-filter_more (λ d. is_none (light_of p.plan d)) p.plan.contacts place no_contact lt in
     let h = c.loop-place.invariant in
     record {
-      counted = omega (arith, h.counted, more, one.0, ap (λ o. cond (is_none o) 1 0) light);
+      counted = omega (arith, h.counted, more, one.0, ap {B = ℕ} (λ o. cond (is_none o) 1 0) light);
       few = omega (arith, h.few, one.1);
     }
