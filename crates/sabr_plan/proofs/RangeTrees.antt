@@ -1,13 +1,14 @@
 -- A tree of ranges by their keys: what it holds after a change, and which of its ranges a range can overlap.
-use Rattle.std.proofs.Common.{◌≡◌, ℕ, zero, suc, ◌+◌, ◌-◌, ◌<◌, ◌≤◌, Bool, true, false, cond, ◌||◌, ◌&&◌, not, eqb, List, [], ◌∷◌, ◌++◌, length, get_or, drop, map, filter, refl, sym, ap, subst, ◌∙◌, inl, inr, length-drop, drop-cons, arith}
-use Rattle.std.specs.Prelude.{is_some}
+use Rattle.std.proofs.Common.{◌≡◌, ℕ, suc, ◌+◌, ◌-◌, ◌<◌, ◌≤◌, Bool, true, false, cond, ◌||◌, ◌&&◌, not, eqb, List, [], ◌∷◌, ◌++◌, length, get_or, drop, map, filter, refl, sym, ap, subst, ◌∙◌, inl, inr, length-drop, drop-cons, arith}
+use Rattle.std.specs.Prelude.{is_some, option_map, slice_get}
 use Rattle.std.specs.List.{list_any, AllByRecursion}
 use Rattle.std.specs.List.Sorted.{IsStrictlySortedBy}
-use Rattle.std.specs.Map.{lookup, remove_entry, values_of}
+use Rattle.std.proofs.lemmas.List.Sorted.{length_permutation}
+use Rattle.std.specs.Map.{lookup, remove_entry, keys_of, values_of}
 use Rattle.std.specs.BTreeMap.{BTreeMap, get, insert_entry, is_at, values}
 use Rattle.std.specs.BTreeMap.Range.{IsRangeOf}
 use Rattle.std.specs.declared.ops.Bound.TheVariants.{Excluded, Unbounded}
-use Rattle.std.specs.Ordering.{nat_cmp, ordering_then, ordering_reverse, match_ordering, is_eq, is_lt}
+use Rattle.std.specs.Ordering.{nat_cmp, ordering_then, match_ordering, is_lt}
 use Rattle.std.specs.Cmp.{both_tied, unsigned_ties}
 use Rattle.std.specs.declared.cmp.Ordering.{Ordering}
 use Rattle.std.specs.declared.cmp.Ordering.TheVariants.{Less, Equal, Greater}
@@ -15,10 +16,9 @@ use Rattle.std.specs.declared.option.Option.{Option}
 use Rattle.std.specs.declared.option.Option.TheVariants.{Some, None}
 use Rattle.std.proofs.lemmas.Bool.{cases_order, and_parts, cases_Bool, cases_lt, both_ways, eqb-true, false_from_ne_true}
 use Rattle.std.proofs.lemmas.Bool.Decides.{nat_tests}
-use Rattle.std.proofs.lemmas.Cmp.{tied_itself}
-use Rattle.std.proofs.lemmas.Map.Entries.{lookup_head, lookup_tail}
-use Rattle.std.proofs.lemmas.Option.{none-some, same_Some}
-use Rattle.std.proofs.lemmas.List.{get_or-drop, get_or_default}
+use Rattle.std.proofs.lemmas.Map.Entries.{lookup_head, lookup_tail, place_from_lookup, btree_map_get_place}
+use Rattle.std.proofs.lemmas.Option.{none-some, same_Some, slice_get-map, slice_get-get_or, slice_get_within}
+use Rattle.std.proofs.lemmas.List.{length-map, get_or-drop, get_or_default}
 use Rattle.std.proofs.lemmas.List.Folds.{list_any_at}
 use Rattle.std.proofs.lemmas.List.Recursion.{or_from_places}
 use Rattle.sabr_model.specs.declared.contact.Range.{Range}
@@ -27,37 +27,32 @@ use Rattle.sabr_model.specs.plan.Plan.{IsPlan, IsNode, last_time, overlap, range
 use Rattle.sabr_model.specs.plan.Adding.{begins, by_range_key, range_refusal}
 use Rattle.sabr_model.specs.plan.RangeOrder.{IsRangeList}
 use Rattle.sabr_model.proofs.PlanLemmas.KeyOrder.{IsBy, by_key_total, less_is, not_less_is, not_both}
-use Rattle.sabr_model.proofs.PlanLemmas.RangeOrder.{range_list, key_at, overlap_parts}
+use Rattle.sabr_model.proofs.PlanLemmas.RangeOrder.{range_list, overlap_parts}
 use Rattle.sabr_model.proofs.PlanLemmas.RangeLemmas.{accepted_range, IsPlan-range}
 use Rattle.sabr_model.proofs.PlanLemmas.Deletions.{IsPlan-fewer_ranges}
 use Rattle.sabr_plan.specs.Gathering.{keyed, plan_of_ranges, IsRangeTree}
-use Rattle.sabr_plan.proofs.SortedRanges.{no_range, no_tie, all_from_places}
+use Rattle.sabr_plan.proofs.SortedRanges.{no_range, no_tie, moved_by_put, all_from_places}
 
 abbrev Key : Type 0
 Key = ℕ × ℕ × ℕ
 
-pub keyed_values : (rs : List Range) → values_of (map keyed rs) ≡ rs
+keyed_values : (rs : List Range) → values_of (map keyed rs) ≡ rs
 keyed_values [] = refl
 keyed_values (r ∷ rs) = ap (λ xs. r ∷ xs) (keyed_values rs)
 
+keyed_keys : (rs : List Range) → keys_of (map keyed rs) ≡ map range_key rs
+keyed_keys [] = refl
+keyed_keys (r ∷ rs) = ap (λ ks. range_key r ∷ ks) (keyed_keys rs)
+
 -- ---- one more
 
-pub insert_keyed : (r : Range) (rs : List Range) → AllByRecursion (λ s. by_range_key r s ≡ Equal → ⊥) rs → insert_entry by_key (map keyed rs) (range_key r) r ≡ map keyed (put_in by_range_key r rs)
+insert_keyed : (r : Range) (rs : List Range) → AllByRecursion (λ s. by_range_key r s ≡ Equal → ⊥) rs → insert_entry by_key (map keyed rs) (range_key r) r ≡ map keyed (put_in by_range_key r rs)
 insert_keyed r [] none = refl
 insert_keyed r (s ∷ rs) none =
     (elim (by_range_key r s) as (λ o. (o ≡ Equal → ⊥) → match_ordering o (keyed r ∷ keyed s ∷ map keyed rs) ((range_key s, r) ∷ map keyed rs) (keyed s ∷ insert_entry by_key (map keyed rs) (range_key r) r) ≡ map keyed (elim o as (λ _. List Range) [ Less ↦ r ∷ s ∷ rs | Equal ↦ s ∷ rs | Greater ↦ s ∷ put_in by_range_key r rs ])) [
       | Less ↦ λ n. refl
       | Equal ↦ λ n. absurd (n refl)
       | Greater ↦ λ n. ap (λ es. keyed s ∷ es) (insert_keyed r rs none.1)
-    ]) none.0
-
-pub length_put : (r : Range) (rs : List Range) → AllByRecursion (λ s. by_range_key r s ≡ Equal → ⊥) rs → length (put_in by_range_key r rs) ≡ length rs + 1
-length_put r [] none = refl
-length_put r (s ∷ rs) none =
-    (elim (by_range_key r s) as (λ o. (o ≡ Equal → ⊥) → length (elim o as (λ _. List Range) [ Less ↦ r ∷ s ∷ rs | Equal ↦ s ∷ rs | Greater ↦ s ∷ put_in by_range_key r rs ]) ≡ suc (length rs) + 1) [
-      | Less ↦ λ n. omega arith
-      | Equal ↦ λ n. absurd (n refl)
-      | Greater ↦ λ n. let one = length_put r rs none.1 in omega (arith, one)
     ]) none.0
 
 -- ---- one less
@@ -95,7 +90,7 @@ module _ (one other start : ℕ) where
       ∙ ap (λ ts. s ∷ ts) (none_after r rs here all.1)
 
   -- without the one that begins so none is left
-  pub remove_keyed : (rs : List Range) → IsStrictlySortedBy by_key (map range_key rs) → remove_entry test (map keyed rs) ≡ map keyed (filter (λ s. not (p s)) rs)
+  remove_keyed : (rs : List Range) → IsStrictlySortedBy by_key (map range_key rs) → remove_entry test (map keyed rs) ≡ map keyed (filter (λ s. not (p s)) rs)
   unfolding IsStrictlySortedBy
   remove_keyed [] sorted = refl
   remove_keyed (r ∷ rs) sorted =
@@ -111,7 +106,7 @@ module _ (one other start : ℕ) where
             ∙ ap (λ b. map keyed (cond (not b) (r ∷ rest) rest)) (sym begins_not)
       ]
 
-  pub any_found : (rs : List Range) → list_any p rs ≡ is_some (lookup test (map keyed rs))
+  any_found : (rs : List Range) → list_any p rs ≡ is_some (lookup test (map keyed rs))
   any_found [] = refl
   any_found (r ∷ rs) =
       elim (cases_Bool (p r)) [
@@ -132,31 +127,6 @@ is_lt_by x y h = grind (arith, nat_tests)
 less_by : (x y : Key) → IsBy 1 x y → by_key x y ≡ Less
 less_by x y h = only_less (by_key x y) (is_lt_by x y h)
 
--- each range is found by its key
-found_at : (rs : List Range) (k : ℕ) (d : Range) → IsStrictlySortedBy by_key (map range_key rs) → k < length rs → lookup (is_at (by_key (range_key (get_or rs k d)))) (map keyed rs) ≡ Some (get_or rs k d)
-unfolding IsStrictlySortedBy
-found_at [] k d sorted lt = absurd (omega (arith, lt))
-found_at (r ∷ rs) zero d sorted lt = lookup_head (is_at (by_key (range_key r))) (keyed r) (map keyed rs) (ap is_eq (tied_itself by_key_total (range_key r)))
-found_at (r ∷ rs) (suc k) d sorted lt =
-    let within : k < length rs = omega (arith, lt) in
-    let x = get_or rs k d in
-    lookup_tail (is_at (by_key (range_key x))) (keyed r) (map keyed rs) (ap is_eq (by_key_total.antisymm (range_key x) (range_key r) ∙ ap ordering_reverse (key_at rs k d (λ y. by_key (range_key r) y ≡ Less) sorted.0 within)))
-    ∙ found_at rs k d sorted.1 within
-
--- what is found is a range with that key
-found_is : (asks : Key → Bool) (rs : List Range) (s : Range) → lookup asks (map keyed rs) ≡ Some s → (i : ℕ) × (i < length rs) × ((d : Range) → get_or rs i d ≡ s) × (asks (range_key s) ≡ true)
-found_is asks [] s is = absurd (none-some s is)
-found_is asks (r ∷ rs) s is =
-    elim (cases_Bool (asks (range_key r))) [
-      | inl begun ↦
-          let same : r ≡ s = same_Some r s (sym (lookup_head asks (keyed r) (map keyed rs) begun) ∙ is) in
-          (zero, omega arith, λ d. same, subst (λ x. asks (range_key x) ≡ true) same begun)
-      | inr begins_not ↦
-          let rest = found_is asks rs s (sym (lookup_tail asks (keyed r) (map keyed rs) begins_not) ∙ is) in
-          let lt = rest.1 in
-          (suc rest.0, omega (arith, lt), rest.2, rest.3)
-    ]
-
 overlap_from : (r s : Range) → r.one ≡ s.one → r.other ≡ s.other → r.start < s.end → s.start < r.end → overlap r s ≡ true
 overlap_from r s one other a b = grind (arith, nat_tests)
 
@@ -176,8 +146,11 @@ module _ (m : BTreeMap Key Range) (rs : List Range) (holds : m.entries ≡ map k
   abbrev bound : Key
   bound = (r.one, r.other, r.end)
 
+  -- each range is found by its key
   there : (k : ℕ) (d : Range) → k < length rs → get by_key m (range_key (get_or rs k d)) ≡ Some (get_or rs k d)
-  there k d lt = ap (lookup (is_at (by_key (range_key (get_or rs k d))))) holds ∙ found_at rs k d sorted lt
+  there k d lt =
+      let ordered = subst (IsStrictlySortedBy by_key) (sym (ap keys_of holds ∙ keyed_keys rs)) sorted in
+      btree_map_get_place by_key_total m k (range_key (get_or rs k d)) (get_or rs k d) ordered (ap (λ es. slice_get es k) holds ∙ slice_get-map keyed rs k ∙ ap (option_map keyed) (slice_get-get_or rs k d lt))
 
   -- what it overlaps begins before its end
   before_end : (x : Range) → overlap r x ≡ true → by_key (range_key x) bound ≡ Less
@@ -197,11 +170,13 @@ module _ (m : BTreeMap Key Range) (rs : List Range) (holds : m.entries ≡ map k
   pub overlaps_last : (t : List (Key × Range)) (e : Key × Range) → span ≡ t ++ e ∷ [] → list_any (overlap r) rs ≡ overlap r e.1
   overlaps_last t e is =
       let own = lies.3 e t is in
-      let found = found_is (is_at (by_key e.0)) rs e.1 (sym (ap (lookup (is_at (by_key e.0))) holds) ∙ own.1) in
+      let found = place_from_lookup (is_at (by_key e.0)) (map keyed rs) e.1 (sym (ap (lookup (is_at (by_key e.0))) holds) ∙ own.1) in
       let i = found.0 in
-      let lt : i < length rs = found.1 in
-      let at : get_or rs i no_range ≡ e.1 = found.2 no_range in
-      let key = parts e.0.0 e.0.1 e.0.2 e.1 (tied e.0.0 e.0.1 e.0.2 e.1 ∙ found.3) in
+      let lt : i < length rs = let low = slice_get_within (map keyed rs) i (found.1, e.1) found.2 in omega (arith, low, length-map rs keyed) in
+      let same : keyed (get_or rs i no_range) ≡ (found.1, e.1) = same_Some _ _ (sym (slice_get-map keyed rs i ∙ ap (option_map keyed) (slice_get-get_or rs i no_range lt)) ∙ found.2) in
+      let at : get_or rs i no_range ≡ e.1 = ap (λ x. x.1) same in
+      let named : range_key e.1 ≡ found.1 = sym (ap range_key at) ∙ ap (λ x. x.0) same in
+      let key = parts e.0.0 e.0.1 e.0.2 e.1 (tied e.0.0 e.0.1 e.0.2 e.1 ∙ ap (is_at (by_key e.0)) named ∙ found.3) in
       let key_is : e.0 ≡ range_key e.1 = λ j. (key.0 j, key.1 j, key.2 j) in
       let low = less_is (range_key e.1) bound (subst (λ x. by_key x bound ≡ Less) key_is own.0.1) in
       elim (cases_Bool (overlap r e.1)) [
@@ -257,17 +232,14 @@ module _ (m n : BTreeMap Key Range) (h : IsRangeTree m) where
   tree_stays is = (tree_of n rs (is ∙ h.0) h.1).0
 
   -- one more
-  pub tree_more : (r : Range) → IsNode r.one → IsNode r.other → r.end ≤ last_time → r.light ≤ 1000000 → range_refusal (plan_of_ranges rs) r ≡ None → n.entries ≡ insert_entry by_key m.entries (range_key r) r → IsRangeTree n × (values n ≡ put_in by_range_key r rs)
+  pub tree_more : (r : Range) → IsNode r.one → IsNode r.other → r.end ≤ last_time → r.light ≤ 1000000 → range_refusal (plan_of_ranges rs) r ≡ None → n.entries ≡ insert_entry by_key m.entries (range_key r) r
+      → IsRangeTree n × (values n ≡ put_in by_range_key r rs) × (length (values n) ≡ length rs + 1)
   tree_more r one other ends light accept is =
       let a = accepted_range (plan_of_ranges rs) r accept in
-      tree_of n (put_in by_range_key r rs)
-      (is ∙ ap (λ es. insert_entry by_key es (range_key r) r) h.0 ∙ insert_keyed r rs (no_tie r rs a.window h.1.range_windows a.new))
-      (IsPlan-range (plan_of_ranges rs) r h.1 one other ends light accept)
-
-  pub tree_longer : (r : Range) → range_refusal (plan_of_ranges rs) r ≡ None → length (put_in by_range_key r rs) ≡ length rs + 1
-  tree_longer r accept =
-      let a = accepted_range (plan_of_ranges rs) r accept in
-      length_put r rs (no_tie r rs a.window h.1.range_windows a.new)
+      let ties = no_tie r rs a.window h.1.range_windows a.new in
+      let made = tree_of n (put_in by_range_key r rs) (is ∙ ap (λ es. insert_entry by_key es (range_key r) r) h.0 ∙ insert_keyed r rs ties) (IsPlan-range (plan_of_ranges rs) r h.1 one other ends light accept) in
+      let longer = length_permutation (r ∷ rs) (put_in by_range_key r rs) (moved_by_put r rs ties) in
+      (made.0, made.1, omega (arith, ap length made.1, longer))
 
   -- one less
   pub tree_less : (one other start : ℕ) → n.entries ≡ remove_entry (is_at (by_key (one, other, start))) m.entries → IsRangeTree n × (values n ≡ filter (λ r. not (begins one other start r)) rs)

@@ -145,7 +145,10 @@ impl<A: Allocator + Copy> PlanFeed<A> {
         ensures kind { result.kind ≡ kind.Read }
         ensures value { outcome self.now [] false ≡ Err result }
     {
-        self.fault(PlanKind::Read)
+        PlanFault {
+            line: self.lines + 1,
+            kind: PlanKind::Read,
+        }
     }
 
     /// Returns the fault of this kind in the line after those that have ended.
@@ -227,10 +230,11 @@ impl<A: Allocator + Copy> PlanFeed<A> {
         ensures held { IsTrue (is_one_line self.old.held) }
         ensures err { IfErr result (λ f. (f ≡ broken_line (self.old.lines + 1) (self.old.held ++ bytes.now)) × (f.kind ≢ kind.Read)) }
     {
+        let full = self.lines >= MAX_LINES;
         if bytes.is_empty() {
             return Ok(());
         }
-        if self.lines >= MAX_LINES {
+        if full {
             return Err(self.fault(PlanKind::TooMany));
         }
         if bytes.len() > MAX_LINE_BYTES - self.held.len() {

@@ -4,21 +4,8 @@
 //! the end. It adds the records to [`GatheredContacts`] and [`GatheredRanges`], and makes the plan of both by
 //! [`gathered_plan`].
 //!
-//! - [`GatheredContacts::add`] is O(1) on average. A hash table finds a second contact with the same sender, receiver
-//!   and start, and isn't used while the contacts come in ascending order of start, sender and receiver.
-//! - [`GatheredRanges::add`] needs no search while each range begins after those before it end, in order of pairs and
-//!   times. Most plans are in order of times alone: a hash table of their pairs finds what a range could overlap. From
-//!   the first deletion on, and where many ranges of few pairs come in no order, a tree does.
-//! - Both have a `delete`, as [`Plan`](sabr_model::Plan) has.
-//!
-//! **Units.** Times are whole seconds since 1970-01-01T00:00:00Z, up to 253370764799. Rates are bytes per second, and
-//! light times whole seconds up to 1000000. Nodes are numbers from 1 on.
-//!
-//! **Errors.** A record is refused with the [`AddFault`](sabr_model::AddFault) that `Plan::add_contact` or
-//! `Plan::add_range` would return, and then nothing is changed.
-//!
-//! **Sources.** The commands of ionrc(5), as far as this project's profile of them goes: contracts say that the plan is
-//! that of the same changes, one by one. Gathering adds only speed.
+//! Records come in any order, and a record is refused with the [`AddFault`](sabr_model::AddFault) that the plan so far
+//! would return. Contracts say that the plan is that of the same changes, one by one: gathering adds only speed.
 //!
 //! ```ignore
 //! let mut contacts = GatheredContacts::new(rt.alloc());

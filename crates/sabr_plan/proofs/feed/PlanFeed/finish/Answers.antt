@@ -27,4 +27,4 @@ returns-in_err-end_text g c =
 pub returns-in-Ok : goal.returns-in-Ok
 returns-in-Ok g c =
     let h = c.in_ok-end_text.ensures in
-    read c.args.self _ _ h.held h.value (rw c.in-Ok.is at c.into_plan.ensures ∙ ?)
+    read c.args.self _ _ h.held h.value (rw c.in-Ok.is at c.into_plan.ensures ∙ ap (λ (s : Fed). s.reading.plan) c.self.view_is)

@@ -6,7 +6,7 @@ use Rattle.sabr_model.specs.declared.contact.Range.{Range}
 use Rattle.sabr_model.specs.Order.{by_key, put_in}
 use Rattle.sabr_model.specs.plan.Adding.{by_range_key, range_refusal}
 use Rattle.sabr_plan.specs.Gathering.{plan_of_ranges}
-use Rattle.sabr_plan.proofs.RangeTrees.{tree_longer, tree_more, tree_stays}
+use Rattle.sabr_plan.proofs.RangeTrees.{tree_more, tree_stays}
 use Rattle.sabr_plan.proofs.gathering.range_tree.RangeTree.add.Goals.{in-Ok, in-Err}
 use Rattle.sabr_plan.proofs.gathering.range_tree.RangeTree.add.Goals as goal
 
@@ -37,7 +37,7 @@ returns-clause-longer g c =
     let accept : range_refusal (plan_of_ranges (values m)) r ≡ None = ap (λ rs. range_refusal (plan_of_ranges rs) r) c.self.view_is ∙ sym c.refusal.ensures ∙ c.in_default.is in
     elim c.match-insert.branch [
       | in-Ok w ↦
-          let more = (tree_more m c.insert.new.self c.self.invariant r (c.requires.one, omega arith) (c.requires.other, omega arith) c.requires.end c.requires.light accept ((w.in-Ok.ensures {u = tt}).entries ∙ ap (λ k. insert_entry by_key m.entries k r) c.key.ensures)).1 in
-          rw w.result-is (ap length more ∙ tree_longer m c.insert.new.self c.self.invariant r accept ∙ ap (λ (rs : List Range). length rs + 1) c.self.view_is)
+          let more = (tree_more m c.insert.new.self c.self.invariant r (c.requires.one, omega arith) (c.requires.other, omega arith) c.requires.end c.requires.light accept ((w.in-Ok.ensures {u = tt}).entries ∙ ap (λ k. insert_entry by_key m.entries k r) c.key.ensures)) in
+          rw w.result-is (more.2 ∙ ap (λ (rs : List Range). length rs + 1) c.self.view_is)
       | in-Err w ↦ rw w.result-is tt
     ]
