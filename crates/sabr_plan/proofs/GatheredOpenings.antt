@@ -25,6 +25,8 @@ use Rattle.sabr_model.proofs.PlanLemmas.KeyOrder.{is_le_by, le_is, greater_is, l
 use Rattle.sabr_plan.specs.Gathering.{stands, standing, stands_at, IsFound, opening_key, contact_bucket, OpenBy, KnowsSome}
 use Rattle.sabr_model.proofs.PlanLemmas.ContactLemmas.{all_push}
 use Rattle.sabr_model.proofs.PlanLemmas.Deletions.{opens_parts}
+use Rattle.sabr_model.proofs.PlanLemmas.RangeOrder.{find_none}
+use Rattle.std.proofs.lemmas.Bool.Decides.{nat_tests}
 use Rattle.sabr_plan.proofs.ChainedPlaces.{chained_push}
 
 -- ---- contacts that open by a last opening
@@ -67,11 +69,7 @@ module _ (p : ContactPlan) (from to start end : ℕ) (window : start < end) (apa
 -- a test of those that stand
 pub any_standing : (p : Contact → Bool) (cs : List Contact) → list_any (λ c. p c && stands c) cs ≡ list_any p (standing cs)
 any_standing p [] = refl
-any_standing p (c ∷ cs) =
-    elim (stands c) as (λ b. ((p c && b) || list_any (λ d. p d && stands d) cs) ≡ list_any p (cond b (c ∷ standing cs) (standing cs))) [
-      | true ↦ elim (p c) as (λ b. ((b && true) || list_any (λ d. p d && stands d) cs) ≡ (b || list_any p (standing cs))) [ true ↦ refl | false ↦ any_standing p cs ]
-      | false ↦ elim (p c) as (λ b. ((b && false) || list_any (λ d. p d && stands d) cs) ≡ list_any p (standing cs)) [ true ↦ any_standing p cs | false ↦ any_standing p cs ]
-    ]
+any_standing p (c ∷ cs) = grind (arith, nat_tests, any_standing p cs)
 
 -- what an index past the end gives
 abbrev pub no_contact : Contact
@@ -119,8 +117,7 @@ all_stay p (c ∷ cs) fails =
 
 -- and none is found
 nothing : (p : Contact → Bool) (cs : List Contact) → list_any p cs ≡ false → find p cs ≡ None
-nothing p [] fails = refl
-nothing p (c ∷ cs) fails = let parts = or_parts (p c) (list_any p cs) fails in ap (λ b. cond b (Some c) (find p cs)) parts.0 ∙ nothing p cs parts.1
+nothing p cs fails = find_none p cs (λ k d lt passes. both_ways (list_any p cs) fails (list_any_at p cs k d lt passes))
 
 -- an element that is found passes for some
 any_found : (p : Contact → Bool) (cs : List Contact) (c : Contact) → find p cs ≡ Some c → list_any p cs ≡ true

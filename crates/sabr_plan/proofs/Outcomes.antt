@@ -1,7 +1,7 @@
 -- The lines of a text that is given in parts, and its outcome.
-use Rattle.std.proofs.Common.{◌≡◌, ℕ, suc, ◌<◌, true, false, not, eqb, List, [], ◌∷◌, ◌++◌, ◌+◌, ◌-◌, length, take, drop, get_or, refl, sym, ap, ◌∙◌, arith, append-nil, length-append, length-drop, get_or-drop, add-zero, ◌≢◌, Bool, append_assoc, Result, Ok, Err}
+use Rattle.std.proofs.Common.{◌≡◌, ℕ, suc, ◌<◌, true, false, not, eqb, List, [], ◌∷◌, ◌++◌, ◌+◌, ◌-◌, length, get_or, refl, sym, ap, ◌∙◌, arith, append-nil, length-append, ◌≢◌, Bool, append_assoc, Result, Ok, Err}
 use Rattle.std.proofs.lemmas.Bool.{and_parts}
-use Rattle.std.proofs.lemmas.List.{take-append-drop, get_or-append-add}
+use Rattle.std.proofs.lemmas.List.{get_or-append-add}
 use borrow.Author.Tests.{not-true}
 use Rattle.sabr_plan.specs.Words.{TextLines, is_one_line, before_lines, lines_of, has_bytes}
 use Rattle.std.proofs.lemmas.Bool.Decides.{nat_tests}
@@ -48,18 +48,6 @@ pub lines_of-line : (line more : List ℕ) → is_one_line line ≡ true → lin
 unfolding lines_of
 lines_of-line line more one =
     lines_of-front line (10 ∷ more) one ∙ ap (λ (first : List ℕ). record { ended = first ∷ (lines_of more).ended; open_line = (lines_of more).open_line }) (append-nil line)
-
-behind_lf : (back : List ℕ) → 0 < length back → get_or back 0 0 ≡ 10 → back ≡ 10 ∷ drop 1 back
-behind_lf [] some lf = absurd (omega arith)
-behind_lf (b ∷ back) some lf = ap (λ x. x ∷ back) lf
-
--- a text up to its first LF, and after it
-pub parted : (text front back rest : List ℕ) (end : ℕ) → front ≡ take end text → back ≡ drop end text → end < length text → get_or text end 0 ≡ 10 → rest ≡ drop 1 back → text ≡ front ++ 10 ∷ rest
-parted text front back rest end a b h lf c =
-    let some : 0 < length back = omega (arith, ap length b, length-drop end text) in
-    let first : get_or back 0 0 ≡ 10 = ap (λ s. get_or s 0 0) b ∙ get_or-drop end text 0 0 ∙ ap (λ k. get_or text k 0) (add-zero end) ∙ lf in
-    let whole : text ≡ front ++ back = rw (a, b) (sym (take-append-drop end text)) in
-    whole ∙ ap (λ s. front ++ s) (behind_lf back some first ∙ ap (λ s. 10 ∷ s) (sym c))
 
 -- what comes after a line of a text that ends with LF is empty or ends with LF
 pub still_lf_at_end : (text line rest : List ℕ) → text ≡ line ++ 10 ∷ rest → (0 < length text → get_or text (length text - 1) 0 ≡ 10) → 0 < length rest → get_or rest (length rest - 1) 0 ≡ 10
@@ -151,23 +139,17 @@ pub outcome-end : (s : Fed) (ended : Bool) → is_one_line s.held ≡ true → o
 unfolding outcome
 outcome-end s ended one = text_outcome-end read_lines read_line last_line in_turn (s.lines + 1) s.reading s.held ended one
 
--- a line with too high a number, or too long, is refused for its beginning
+-- a line with too high a number, or too long, is refused for its beginning; so is a last line
 refused_line : (n : ℕ) (r : Reading) (front back : List ℕ) → (broken_line n front).kind ≢ kind.Read → limited n r (front ++ back) ≡ Err (broken_line n front).kind
 unfolding limited
 refused_line n r front back other = let long = length-append front back in grind (arith, nat_tests)
 
-still_broken : (n : ℕ) (front back : List ℕ) → (broken_line n front).kind ≢ kind.Read → broken_line n (front ++ back) ≡ broken_line n front
-still_broken n front back other = let long = length-append front back in grind (arith, nat_tests)
+still_broken : (n : ℕ) (front back : List ℕ) → (broken_line n front).kind ≢ kind.Read → (broken_line n (front ++ back) ≡ broken_line n front) × (has_bytes (front ++ back) ≡ true)
+still_broken n front back other = let long = length-append front back in (grind (arith, nat_tests), grind (arith, nat_tests))
 
--- bytes that are refused are not empty
-some_bytes : (n : ℕ) (front back : List ℕ) → (broken_line n front).kind ≢ kind.Read → has_bytes (front ++ back) ≡ true
-some_bytes n front back other = let long = length-append front back in grind (arith, nat_tests)
-
--- a last line is refused for its beginning, too
 last_refused : (n : ℕ) (r : Reading) (front back : List ℕ) (ended : Bool) → (broken_line n front).kind ≢ kind.Read → last_line ended n (front ++ back) r ≡ Err (broken_line n front)
-last_refused n r front back true other =
-    rw (some_bytes n front back other, refused_line n r front back other) refl
-last_refused n r front back false other = ap Err (still_broken n front back other)
+last_refused n r front back true other = rw ((still_broken n front back other).1, refused_line n r front back other) refl
+last_refused n r front back false other = ap Err (still_broken n front back other).0
 
 -- bytes that are refused, whatever comes after them
 pub outcome-refused : (s : Fed) (bytes more : List ℕ) (ended : Bool) → is_one_line s.held ≡ true → is_one_line bytes ≡ true → (broken_line (s.lines + 1) (s.held ++ bytes)).kind ≢ kind.Read → outcome s (bytes ++ more) ended ≡ Err (broken_line (s.lines + 1) (s.held ++ bytes))

@@ -10,7 +10,6 @@ use Rattle.std.specs.BTreeMap.Range.{IsRangeOf}
 use Rattle.std.specs.declared.ops.Bound.TheVariants.{Excluded, Unbounded}
 use Rattle.std.specs.Ordering.{nat_cmp, ordering_then, match_ordering, is_lt}
 use Rattle.std.specs.Cmp.{both_tied, unsigned_ties}
-use Rattle.std.specs.declared.cmp.Ordering.{Ordering}
 use Rattle.std.specs.declared.cmp.Ordering.TheVariants.{Less, Equal, Greater}
 use Rattle.std.specs.declared.option.Option.{Option}
 use Rattle.std.specs.declared.option.Option.TheVariants.{Some, None}
@@ -116,16 +115,8 @@ module _ (one other start : ℕ) where
 
 -- ---- the last that begins before an end
 
-only_less : (o : Ordering) → is_lt o ≡ true → o ≡ Less
-only_less Less h = refl
-only_less Equal h = absurd cc
-only_less Greater h = absurd cc
-
-is_lt_by : (x y : Key) → IsBy 1 x y → is_lt (by_key x y) ≡ true
-is_lt_by x y h = grind (arith, nat_tests)
-
 less_by : (x y : Key) → IsBy 1 x y → by_key x y ≡ Less
-less_by x y h = only_less (by_key x y) (is_lt_by x y h)
+less_by x y h = grind (arith, nat_tests)
 
 overlap_from : (r s : Range) → r.one ≡ s.one → r.other ≡ s.other → r.start < s.end → s.start < r.end → overlap r s ≡ true
 overlap_from r s one other a b = grind (arith, nat_tests)

@@ -185,23 +185,13 @@ pub fields_at-text : (t : ℕ) → fields_at (time_text_of t) ≡ fields_of t
 unfolding time_text_of
 fields_at-text t = fields_at-spelled (fields_of t)
 
--- the second that fields name
-named_by : TimeFields → ℕ
-named_by f = unsigned_abs (days_from_civil (pos f.year) f.month f.day) * 86400 + f.hour * 3600 + f.minute * 60 + f.second
-
-second_named-fields_at : (word : List ℕ) → second_named word ≡ named_by (fields_at word)
-unfolding second_named named_by
-second_named-fields_at word = refl
-
-named_by-fields_of : (t : ℕ) → t ≤ last_spelled → named_by (fields_of t) ≡ t
-unfolding named_by fields_of
-named_by-fields_of t h =
-    let is = (day_after_epoch_is (t / 86400) (omega arith)).number in
-    rw is (omega arith)
-
 -- the digits of a time's text name its second
 pub second_named-text : (t : ℕ) → t ≤ last_spelled → second_named (time_text_of t) ≡ t
-second_named-text t h = second_named-fields_at (time_text_of t) ∙ ap named_by (fields_at-text t) ∙ named_by-fields_of t h
+unfolding second_named fields_of
+second_named-text t h =
+    let named : TimeFields → ℕ = λ f. unsigned_abs (days_from_civil (pos f.year) f.month f.day) * 86400 + f.hour * 3600 + f.minute * 60 + f.second in
+    let is = (day_after_epoch_is (t / 86400) (omega arith)).number in
+    ap named (fields_at-text t) ∙ rw is (omega arith)
 
 -- the time of a text
 pub time_of-text : (t : ℕ) → t ≤ last_time → time_of (time_text_of t) ≡ Some t

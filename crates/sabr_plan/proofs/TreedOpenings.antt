@@ -1,11 +1,12 @@
 -- A tree of the contacts that stand, by their openings: what it finds, and what one more leaves of it.
-use Rattle.std.proofs.Common.{◌≡◌, ℕ, zero, suc, ◌+◌, ◌<◌, true, false, cond, ◌&&◌, not, eqb, List, [], ◌∷◌, ◌++◌, length, get_or, set, refl, sym, ap, subst, ◌∙◌, inl, inr, arith, length-append}
+use Rattle.std.proofs.Common.{◌≡◌, ℕ, zero, suc, ◌+◌, ◌<◌, true, false, cond, ◌&&◌, not, List, [], ◌∷◌, ◌++◌, length, get_or, set, refl, sym, ap, subst, ◌∙◌, inl, inr, arith, length-append}
 use Rattle.std.specs.List.{list_any}
 use Rattle.std.specs.declared.option.Option.TheVariants.{Some, None}
 use Rattle.std.specs.BTreeMap.{BTreeMap, get, is_at, Updates}
 use Rattle.std.specs.Ordering.{nat_cmp, ordering_then}
 use Rattle.std.specs.Cmp.{both_tied, unsigned_ties}
-use Rattle.std.proofs.lemmas.Bool.{and_parts, and_from, cases_eq, cases_lt, eq-eqb, not-true, both_ways, false_from_ne_true}
+use Rattle.std.proofs.lemmas.Bool.{and_parts, and_from, cases_eq, cases_lt, not-true, both_ways, false_from_ne_true}
+use Rattle.std.proofs.lemmas.Bool.Decides.{nat_tests}
 use Rattle.std.proofs.lemmas.List.{get_or_append_left, get_or_default, get_or-set_same, get_or-set_other, length-set}
 use Rattle.std.proofs.lemmas.List.Folds.{list_any_at}
 use Rattle.std.proofs.lemmas.List.Recursion.{or_from_places}
@@ -71,11 +72,7 @@ tied : (c d : Contact) → same_opening c d ≡ is_at (by_key (key c)) (key d)
 tied c d = both_tied _ _ (ordering_then (nat_cmp c.from d.from) (nat_cmp c.to d.to)) (nat_cmp c.start d.start) (both_tied _ _ (nat_cmp c.from d.from) (nat_cmp c.to d.to) (unsigned_ties c.from d.from) (unsigned_ties c.to d.to)) (unsigned_ties c.start d.start)
 
 flipped : (c d : Contact) → same_opening c d ≡ true → same_opening d c ≡ true
-flipped c d also =
-    let e = opens_parts c.from c.to c.start d also in
-    and_from (eqb d.from c.from && eqb d.to c.to) (eqb d.start c.start)
-    (and_from (eqb d.from c.from) (eqb d.to c.to) (eq-eqb d.from c.from (sym e.0)) (eq-eqb d.to c.to (sym e.1)))
-    (eq-eqb d.start c.start (sym e.2))
+flipped c d also = grind (arith, nat_tests)
 
 module _ (indexes : BTreeMap (ℕ × ℕ × ℕ) ℕ) (n : ℕ) (cs : List Contact) (h : IsTreed indexes n cs) (lt : n < length cs) where
   -- one that doesn't stand
