@@ -1,11 +1,11 @@
 -- What no two gathered contacts share, as the chains beside them have it.
-use Rattle.std.proofs.Common.{◌≡◌, ℕ, zero, suc, ◌<◌, Bool, true, false, cond, ◌&&◌, ◌||◌, not, ltb, List, [], ◌∷◌, ◌++◌, filter, length, get_or, set, refl, sym, ap, subst, ◌∙◌, arith}
+use Rattle.std.proofs.Common.{◌≡◌, ℕ, zero, suc, ◌<◌, Bool, true, false, cond, ◌&&◌, not, ltb, List, [], ◌∷◌, ◌++◌, filter, length, get_or, set, refl, sym, ap, subst, ◌∙◌, arith}
 use Rattle.sabr_model.proofs.ListLemmas.Ordered.{all_weaker}
 use Rattle.std.specs.Prelude.{slice_get, option_map, is_some}
 use Rattle.std.specs.List.{list_any, find, position, position_or_len}
 use Rattle.sabr_model.specs.declared.contact.Contact.{Contact}
 use Rattle.sabr_model.specs.declared.opening.Opening.{Opening}
-use Rattle.std.proofs.lemmas.Bool.{lt-leb, lt-ltb, le-ltb, ne_eqb, and_parts, or_parts, not-true, ltb-false, both_ways, false_from_ne_true}
+use Rattle.std.proofs.lemmas.Bool.{lt-leb, ne_eqb, and_parts, not-true, ltb-false, both_ways, false_from_ne_true}
 use Rattle.std.proofs.lemmas.List.{get_or_default}
 use Rattle.std.proofs.lemmas.Option.{slice_get-get_or}
 use Rattle.std.proofs.lemmas.List.Folds.{list_any_at}
@@ -21,7 +21,7 @@ use Rattle.sabr_model.specs.plan.Adding.{contact_refusal}
 use Rattle.sabr_model.specs.plan.Openings.{opening_of}
 use Rattle.sabr_model.specs.Order.{by_key}
 use Rattle.std.specs.Ordering.{is_le, is_gt}
-use Rattle.sabr_model.proofs.PlanLemmas.KeyOrder.{is_le_by, le_is, greater_is, le_itself, by_more, not_both}
+use Rattle.sabr_model.proofs.PlanLemmas.KeyOrder.{le_itself}
 use Rattle.sabr_plan.specs.Gathering.{stands, standing, stands_at, IsFound, opening_key, contact_bucket, OpenBy, KnowsSome}
 use Rattle.sabr_model.proofs.PlanLemmas.ContactLemmas.{all_push}
 use Rattle.sabr_model.proofs.PlanLemmas.Deletions.{opens_parts}
@@ -34,20 +34,12 @@ use Rattle.sabr_plan.proofs.ChainedPlaces.{chained_push}
 -- none has an opening that comes after it
 pub after_all : (o last : Opening) (cs : List Contact) → OpenBy last cs → is_gt (by_key (opening_key o) (opening_key last)) ≡ true → list_any (stands_at o) cs ≡ false
 after_all o last [] all more = refl
-after_all o last (c ∷ cs) all more =
-    ap (λ b. (b && stands c) || list_any (stands_at o) cs)
-    (false_from_ne_true (opens o.from o.to o.start c) (λ also.
-    let e = opens_parts o.from o.to o.start c also in
-    not_both (rw (e.0, e.1, e.2) (le_is (opening_key (opening_of c)) (opening_key last) all.0)) (greater_is (opening_key o) (opening_key last) more)))
-    ∙ after_all o last cs all.1 more
+after_all o last (c ∷ cs) all more = grind (arith, nat_tests, all.0, after_all o last cs all.1 more)
 
 -- and they open by a later one
 pub later_opening : (o last : Opening) (cs : List Contact) → OpenBy last cs → is_gt (by_key (opening_key o) (opening_key last)) ≡ true → OpenBy o cs
 later_opening o last cs all more =
-    all_weaker (λ d. is_le (by_key (opening_key (opening_of d)) (opening_key last)) ≡ true) (λ d. is_le (by_key (opening_key (opening_of d)) (opening_key o)) ≡ true)
-    (λ d le.
-    let by = by_more (le_is (opening_key (opening_of d)) (opening_key last) le) (greater_is (opening_key o) (opening_key last) more) in
-    is_le_by (opening_key (opening_of d)) (opening_key o) by) cs all
+    all_weaker (λ d. is_le (by_key (opening_key (opening_of d)) (opening_key last)) ≡ true) (λ d. is_le (by_key (opening_key (opening_of d)) (opening_key o)) ≡ true) (λ d le. grind (arith, nat_tests)) cs all
 
 -- one more contact, whose opening is the last one
 pub knows_push : (befores lasts : List ℕ) (in_order : Bool) (last o : Opening) (cs : List Contact) → KnowsSome befores lasts in_order last cs → (in_order ≡ true → OpenBy o cs) → (c : Contact) → opening_of c ≡ o → KnowsSome befores lasts in_order o (cs ++ c ∷ [])
@@ -102,7 +94,7 @@ there cs k c lt is = is ∙ get_or_default cs k c no_contact lt
 
 -- one more that stands
 pub standing_push : (cs : List Contact) (c : Contact) → c.start < c.end → standing (cs ++ c ∷ []) ≡ standing cs ++ c ∷ []
-standing_push cs c lt = filter-append stands cs (c ∷ []) ∙ ap (λ b. standing cs ++ cond b (c ∷ []) []) (lt-ltb c.start c.end lt)
+standing_push cs c lt = grind (arith, nat_tests, filter-append stands cs (c ∷ []))
 
 -- a contact that is deleted
 abbrev pub ended : Contact → ℕ → Contact
@@ -111,9 +103,7 @@ ended c end = record { number = c.number; from = c.from; to = c.to; start = c.st
 -- if no element passes, all stay
 all_stay : (p : Contact → Bool) (cs : List Contact) → list_any p cs ≡ false → filter (λ c. not (p c)) cs ≡ cs
 all_stay p [] fails = refl
-all_stay p (c ∷ cs) fails =
-    let parts = or_parts (p c) (list_any p cs) fails in
-    ap (λ b. cond (not b) (c ∷ filter (λ d. not (p d)) cs) (filter (λ d. not (p d)) cs)) parts.0 ∙ ap (λ ds. c ∷ ds) (all_stay p cs parts.1)
+all_stay p (c ∷ cs) fails = grind (arith, nat_tests, all_stay p cs)
 
 -- and none is found
 nothing : (p : Contact → Bool) (cs : List Contact) → list_any p cs ≡ false → find p cs ≡ None
@@ -122,8 +112,7 @@ nothing p cs fails = find_none p cs (λ k d lt passes. both_ways (list_any p cs)
 -- an element that is found passes for some
 any_found : (p : Contact → Bool) (cs : List Contact) (c : Contact) → find p cs ≡ Some c → list_any p cs ≡ true
 any_found p [] c is = absurd cc
-any_found p (d ∷ ds) c is =
-    elim (p d) as (λ b. cond b (Some d) (find p ds) ≡ Some c → (b || list_any p ds) ≡ true) [ true ↦ λ e. refl | false ↦ λ e. any_found p ds c e ] is
+any_found p (d ∷ ds) c is = grind (arith, nat_tests, any_found p ds c)
 
 -- one that stands ends at its start, and then it and no other is gone
 module _ (o : Opening) where
@@ -135,7 +124,7 @@ module _ (o : Opening) where
   alone c cs passes none_same = let e = opens_parts o.from o.to o.start c passes in rw (e.0, e.1, e.2) none_same
 
   ends : (c : Contact) → p c ≡ true → stands (ended c o.start) ≡ false
-  ends c passes = let q = opens_parts o.from o.to o.start c passes in le-ltb c.start o.start (let s = q.2 in omega (arith, s))
+  ends c passes = grind (arith, nat_tests)
 
   pub deleted : (cs : List Contact) (k : ℕ) → k < length cs → stands_at o (get_or cs k no_contact) ≡ true → none_twice same_opening (standing cs) ≡ true
       → (standing (set cs k (ended (get_or cs k no_contact) o.start)) ≡ filter (λ c. not (p c)) (standing cs)) × (find p (standing cs) ≡ Some (get_or cs k no_contact))

@@ -1,5 +1,5 @@
 -- A tree of ranges by their keys: what it holds after a change, and which of its ranges a range can overlap.
-use Rattle.std.proofs.Common.{◌≡◌, ℕ, suc, ◌+◌, ◌-◌, ◌<◌, ◌≤◌, Bool, true, false, cond, ◌||◌, ◌&&◌, not, eqb, List, [], ◌∷◌, ◌++◌, length, get_or, drop, map, filter, refl, sym, ap, subst, ◌∙◌, inl, inr, length-drop, drop-cons, arith}
+use Rattle.std.proofs.Common.{◌≡◌, ℕ, suc, ◌+◌, ◌-◌, ◌<◌, ◌≤◌, Bool, true, false, not, List, [], ◌∷◌, ◌++◌, length, get_or, drop, map, filter, refl, sym, ap, subst, ◌∙◌, inl, inr, length-drop, drop-cons, arith}
 use Rattle.std.specs.Prelude.{is_some, option_map, slice_get}
 use Rattle.std.specs.List.{list_any, AllByRecursion}
 use Rattle.std.specs.List.Sorted.{IsStrictlySortedBy}
@@ -8,12 +8,11 @@ use Rattle.std.specs.Map.{lookup, remove_entry, keys_of, values_of}
 use Rattle.std.specs.BTreeMap.{BTreeMap, get, insert_entry, is_at, values}
 use Rattle.std.specs.BTreeMap.Range.{IsRangeOf}
 use Rattle.std.specs.declared.ops.Bound.TheVariants.{Excluded, Unbounded}
-use Rattle.std.specs.Ordering.{nat_cmp, ordering_then, match_ordering, is_lt}
-use Rattle.std.specs.Cmp.{both_tied, unsigned_ties}
-use Rattle.std.specs.declared.cmp.Ordering.TheVariants.{Less, Equal, Greater}
+use Rattle.std.specs.Ordering.{match_ordering, is_lt}
+use Rattle.std.specs.declared.cmp.Ordering.TheVariants.{Less, Equal}
 use Rattle.std.specs.declared.option.Option.{Option}
 use Rattle.std.specs.declared.option.Option.TheVariants.{Some, None}
-use Rattle.std.proofs.lemmas.Bool.{cases_order, and_parts, cases_Bool, cases_lt, both_ways, eqb-true, false_from_ne_true}
+use Rattle.std.proofs.lemmas.Bool.{cases_order, cases_Bool, cases_lt, both_ways, false_from_ne_true}
 use Rattle.std.proofs.lemmas.Bool.Decides.{nat_tests}
 use Rattle.std.proofs.lemmas.Map.Entries.{lookup_head, lookup_tail, place_from_lookup, btree_map_get_place}
 use Rattle.std.proofs.lemmas.Option.{none-some, same_Some, slice_get-map, slice_get-get_or, slice_get_within}
@@ -47,12 +46,7 @@ keyed_keys (r ∷ rs) = ap (λ ks. range_key r ∷ ks) (keyed_keys rs)
 
 insert_keyed : (r : Range) (rs : List Range) → AllByRecursion (λ s. by_range_key r s ≡ Equal → ⊥) rs → insert_entry by_key (map keyed rs) (range_key r) r ≡ map keyed (put_in by_range_key r rs)
 insert_keyed r [] none = refl
-insert_keyed r (s ∷ rs) none =
-    (elim (by_range_key r s) as (λ o. (o ≡ Equal → ⊥) → match_ordering o (keyed r ∷ keyed s ∷ map keyed rs) ((range_key s, r) ∷ map keyed rs) (keyed s ∷ insert_entry by_key (map keyed rs) (range_key r) r) ≡ map keyed (elim o as (λ _. List Range) [ Less ↦ r ∷ s ∷ rs | Equal ↦ s ∷ rs | Greater ↦ s ∷ put_in by_range_key r rs ])) [
-      | Less ↦ λ n. refl
-      | Equal ↦ λ n. absurd (n refl)
-      | Greater ↦ λ n. ap (λ es. keyed s ∷ es) (insert_keyed r rs none.1)
-    ]) none.0
+insert_keyed r (s ∷ rs) none = grind (arith, nat_tests, none.0, insert_keyed r rs none.1)
 
 -- ---- one less
 
@@ -65,53 +59,29 @@ module _ (one other start : ℕ) where
 
   -- a range is found by what it begins with
   tied : (r : Range) → p r ≡ test (range_key r)
-  tied r = both_tied _ _ (ordering_then (nat_cmp one r.one) (nat_cmp other r.other)) (nat_cmp start r.start) (both_tied _ _ (nat_cmp one r.one) (nat_cmp other r.other) (unsigned_ties one r.one) (unsigned_ties other r.other)) (unsigned_ties start r.start)
+  tied r = grind (arith, nat_tests)
 
   parts : (r : Range) → p r ≡ true → (one ≡ r.one) × (other ≡ r.other) × (start ≡ r.start)
-  parts r h =
-      let a = and_parts (eqb one r.one && eqb other r.other) (eqb start r.start) h in
-      let b = and_parts (eqb one r.one) (eqb other r.other) a.0 in
-      (eqb-true one r.one b.0, eqb-true other r.other b.1, eqb-true start r.start a.1)
+  parts r h = grind (arith, nat_tests)
 
   -- of two with different keys only one begins so
   apart : (r s : Range) → p r ≡ true → p s ≡ true → by_range_key r s ≡ Less → ⊥
-  apart r s a b less =
-      let x = parts r a in
-      let y = parts s b in
-      let starts = (less_is (range_key r) (range_key s) less).third (sym x.0 ∙ y.0) (sym x.1 ∙ y.1) in
-      omega (arith, starts, x.2, y.2)
+  apart r s a b less = grind (arith, nat_tests)
 
   -- after one that begins so, none does
   none_after : (r : Range) (rs : List Range) → p r ≡ true → AllByRecursion (λ k. by_key (range_key r) k ≡ Less) (map range_key rs) → filter (λ s. not (p s)) rs ≡ rs
   none_after r [] here all = refl
-  none_after r (s ∷ rs) here all =
-      ap (λ b. cond (not b) (s ∷ filter (λ t. not (p t)) rs) (filter (λ t. not (p t)) rs)) (false_from_ne_true (p s) (λ yes. apart r s here yes all.0))
-      ∙ ap (λ ts. s ∷ ts) (none_after r rs here all.1)
+  none_after r (s ∷ rs) here all = grind (arith, nat_tests, none_after r rs here all.1, apart r s)
 
   -- without the one that begins so none is left
   remove_keyed : (rs : List Range) → IsStrictlySortedBy by_key (map range_key rs) → remove_entry test (map keyed rs) ≡ map keyed (filter (λ s. not (p s)) rs)
   unfolding IsStrictlySortedBy
   remove_keyed [] sorted = refl
-  remove_keyed (r ∷ rs) sorted =
-      let rest = filter (λ s. not (p s)) rs in
-      elim (cases_Bool (p r)) [
-        | inl begun ↦
-            ap (λ b. cond b (map keyed rs) (keyed r ∷ remove_entry test (map keyed rs))) (sym (tied r) ∙ begun)
-            ∙ ap (map keyed) (sym (none_after r rs begun sorted.0))
-            ∙ ap (λ b. map keyed (cond (not b) (r ∷ rest) rest)) (sym begun)
-        | inr begins_not ↦
-            ap (λ b. cond b (map keyed rs) (keyed r ∷ remove_entry test (map keyed rs))) (sym (tied r) ∙ begins_not)
-            ∙ ap (λ es. keyed r ∷ es) (remove_keyed rs sorted.1)
-            ∙ ap (λ b. map keyed (cond (not b) (r ∷ rest) rest)) (sym begins_not)
-      ]
+  remove_keyed (r ∷ rs) sorted = grind (arith, nat_tests, tied r, none_after r rs, remove_keyed rs)
 
   any_found : (rs : List Range) → list_any p rs ≡ is_some (lookup test (map keyed rs))
   any_found [] = refl
-  any_found (r ∷ rs) =
-      elim (cases_Bool (p r)) [
-        | inl begun ↦ ap (λ b. b || list_any p rs) begun ∙ sym (ap is_some (lookup_head test (keyed r) (map keyed rs) (sym (tied r) ∙ begun)))
-        | inr begins_not ↦ ap (λ b. b || list_any p rs) begins_not ∙ any_found rs ∙ sym (ap is_some (lookup_tail test (keyed r) (map keyed rs) (sym (tied r) ∙ begins_not)))
-      ]
+  any_found (r ∷ rs) = grind (arith, nat_tests, tied r, any_found rs, lookup_head test (keyed r) (map keyed rs), lookup_tail test (keyed r) (map keyed rs))
 
 -- ---- the last that begins before an end
 

@@ -3,8 +3,6 @@ use Rattle.std.proofs.Common.{◌≡◌, ℕ, zero, suc, ◌+◌, ◌<◌, true,
 use Rattle.std.specs.List.{list_any}
 use Rattle.std.specs.declared.option.Option.TheVariants.{Some, None}
 use Rattle.std.specs.BTreeMap.{BTreeMap, get, is_at, Updates}
-use Rattle.std.specs.Ordering.{nat_cmp, ordering_then}
-use Rattle.std.specs.Cmp.{both_tied, unsigned_ties}
 use Rattle.std.proofs.lemmas.Bool.{and_parts, and_from, cases_eq, cases_lt, not-true, both_ways, false_from_ne_true}
 use Rattle.std.proofs.lemmas.Bool.Decides.{nat_tests}
 use Rattle.std.proofs.lemmas.List.{get_or_append_left, get_or_default, get_or-set_same, get_or-set_other, length-set}
@@ -69,7 +67,7 @@ key c = (c.from, c.to, c.start)
 
 -- keys are equal where openings are
 tied : (c d : Contact) → same_opening c d ≡ is_at (by_key (key c)) (key d)
-tied c d = both_tied _ _ (ordering_then (nat_cmp c.from d.from) (nat_cmp c.to d.to)) (nat_cmp c.start d.start) (both_tied _ _ (nat_cmp c.from d.from) (nat_cmp c.to d.to) (unsigned_ties c.from d.from) (unsigned_ties c.to d.to)) (unsigned_ties c.start d.start)
+tied c d = grind (arith, nat_tests)
 
 flipped : (c d : Contact) → same_opening c d ≡ true → same_opening d c ≡ true
 flipped c d also = grind (arith, nat_tests)
