@@ -3,6 +3,7 @@ use Rattle.std.proofs.Common.{◌≡◌, ℕ, ◌-◌, ◌<◌, ◌≤◌, Bool,
 use Rattle.std.specs.Prelude.{slice_get, Some, option_map}
 use Rattle.std.proofs.lemmas.Option.{slice_get-map, slice_get-get_or}
 use Rattle.std.specs.List.{list_any}
+use Rattle.std.proofs.lemmas.Bool.Decides.{nat_tests}
 use Rattle.std.proofs.lemmas.Bool.{cases_eq, cases_lt, false_from_ne_true}
 use Rattle.std.proofs.lemmas.List.{get_or_append_left, get_or-map, map-append}
 use Rattle.std.proofs.lemmas.List.Recursion.{or_from_places}
@@ -67,11 +68,7 @@ module _ {X : Type 0} {f : X → ℕ} {p : X → Bool} {bucket : ℕ} {none : X}
 
   pub walk_ends : at ≤ 0 → list_any p xs ≡ false
   walk_ends end =
-      or_from_places (list_any p) p refl (λ x ys. refl) xs none (λ j lt.
-      elim (cases_lt j h.below) [
-        | inl low ↦ skipped j lt (h.last.none j (omega (arith, end)) low)
-        | inr high ↦ h.fails j high lt
-      ])
+      or_from_places (list_any p) p refl (λ x ys. refl) xs none (λ j lt. grind (arith, nat_tests, skipped j lt, h.last.none j, h.fails j))
 
   -- from a place that doesn't pass to the one before it
   pub walk_on : (befores lasts : List ℕ) → AreChained (map f xs) befores lasts → length befores ≡ length xs → 0 < at → p (get_or xs (at - 1) none) ≡ false

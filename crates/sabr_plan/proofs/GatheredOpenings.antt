@@ -5,7 +5,7 @@ use Rattle.std.specs.Prelude.{slice_get, option_map, is_some}
 use Rattle.std.specs.List.{list_any, find, position, position_or_len}
 use Rattle.sabr_model.specs.declared.contact.Contact.{Contact}
 use Rattle.sabr_model.specs.declared.opening.Opening.{Opening}
-use Rattle.std.proofs.lemmas.Bool.{lt-leb, ne_eqb, and_parts, not-true, ltb-false, both_ways, false_from_ne_true}
+use Rattle.std.proofs.lemmas.Bool.{lt-leb, ne_eqb, and_parts, ltb-false, both_ways, false_from_ne_true}
 use Rattle.std.proofs.lemmas.List.{get_or_default}
 use Rattle.std.proofs.lemmas.Option.{slice_get-get_or}
 use Rattle.std.proofs.lemmas.List.Folds.{list_any_at}
@@ -129,29 +129,14 @@ module _ (o : Opening) where
   pub deleted : (cs : List Contact) (k : ℕ) → k < length cs → stands_at o (get_or cs k no_contact) ≡ true → none_twice same_opening (standing cs) ≡ true
       → (standing (set cs k (ended (get_or cs k no_contact) o.start)) ≡ filter (λ c. not (p c)) (standing cs)) × (find p (standing cs) ≡ Some (get_or cs k no_contact))
   deleted [] k lt at apart = absurd (omega (arith, lt))
-  deleted (c ∷ cs) zero lt at apart =
-      let both = and_parts (p c) (stands c) at in
-      let parts = and_parts (not (list_any (same_opening c) (standing cs))) (none_twice same_opening (standing cs)) (subst (λ b. none_twice same_opening (cond b (c ∷ standing cs) (standing cs)) ≡ true) both.1 apart) in
-      let left = alone c (standing cs) both.0 (not-true (list_any (same_opening c) (standing cs)) parts.0) in (
-        ap (λ b. cond b (ended c o.start ∷ standing cs) (standing cs)) (ends c both.0)
-            ∙ sym (ap (λ b. filter (λ d. not (p d)) (cond b (c ∷ standing cs) (standing cs))) both.1
-            ∙ ap (λ b. cond (not b) (c ∷ filter (λ d. not (p d)) (standing cs)) (filter (λ d. not (p d)) (standing cs))) both.0
-            ∙ all_stay p (standing cs) left),
-        ap (λ b. find p (cond b (c ∷ standing cs) (standing cs))) both.1 ∙ ap (λ b. cond b (Some c) (find p (standing cs))) both.0,
-      )
-  deleted (c ∷ cs) (suc k) lt at apart =
-      elim (stands c) as (λ b. none_twice same_opening (cond b (c ∷ standing cs) (standing cs)) ≡ true
-      → (cond b (c ∷ standing (set cs k (ended (get_or cs k no_contact) o.start))) (standing (set cs k (ended (get_or cs k no_contact) o.start))) ≡ filter (λ d. not (p d)) (cond b (c ∷ standing cs) (standing cs)))
-      × (find p (cond b (c ∷ standing cs) (standing cs)) ≡ Some (get_or cs k no_contact))) [
-        | true ↦ λ h.
-            let parts = and_parts (not (list_any (same_opening c) (standing cs))) (none_twice same_opening (standing cs)) h in
-            let rest = deleted cs k (omega (arith, lt)) at parts.1 in
-            let other = false_from_ne_true (p c) (λ yes. both_ways (list_any p (standing cs)) (alone c (standing cs) yes (not-true (list_any (same_opening c) (standing cs)) parts.0)) (any_found p (standing cs) _ rest.1)) in (
-              ap (λ ds. c ∷ ds) rest.0 ∙ sym (ap (λ b. cond (not b) (c ∷ filter (λ d. not (p d)) (standing cs)) (filter (λ d. not (p d)) (standing cs))) other),
-              ap (λ b. cond b (Some c) (find p (standing cs))) other ∙ rest.1,
-            )
-        | false ↦ λ h. deleted cs k (omega (arith, lt)) at h
-      ] apart
+  deleted (c ∷ cs) zero lt at apart = (
+    grind (arith, nat_tests, alone c (standing cs), all_stay p (standing cs), ends c),
+    grind (arith, nat_tests),
+  )
+  deleted (c ∷ cs) (suc k) lt at apart = (
+    grind (arith, nat_tests, deleted cs k, alone c (standing cs), any_found p (standing cs)),
+    grind (arith, nat_tests, deleted cs k, alone c (standing cs), any_found p (standing cs)),
+  )
 
   -- the contact that is found is gone then
   pub deletes : (cs : List Contact) (k : ℕ) → IsFound o cs (Some k) → none_twice same_opening (standing cs) ≡ true

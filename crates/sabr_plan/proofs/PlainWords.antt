@@ -3,7 +3,7 @@ use Rattle.std.proofs.Common.{◌≡◌, ℕ, ◌-◌, ◌<◌, true, false, Lis
 use Rattle.std.specs.Prelude.{Option, Some, None, unwrap_or}
 use Rattle.std.specs.List.{All, list_all, position, position_or_len}
 use Rattle.std.proofs.lemmas.List.Splits.{slice_split-cons_yes, slice_split_none, slice_split_at}
-use borrow.Author.Tests.{lt-ltb, le-ltb, ltb-true}
+use borrow.Author.Tests.{lt-ltb, ltb-true}
 use Rattle.sabr_plan.specs.Words.{is_blank, words_of, is_plain, is_comment, has_bytes, is_one_line}
 use Rattle.std.proofs.lemmas.Bool.{and_parts, both_ways, cases_lt, ne_eqb, false≢true, not-false, not-true}
 use Rattle.std.proofs.lemmas.Bool.Decides.{nat_tests}
@@ -83,12 +83,7 @@ words_of-blanks (b ∷ bs) text h = let p = and_parts (is_blank b) (list_all is_
 
 -- the index of the first byte that passes, or the length
 first_or_len : (p : ℕ → Bool) (text : List ℕ) → unwrap_or (position p text) (length text) ≡ position_or_len p text
-first_or_len p text =
-    let within = prefix_len-le-length (λ b. not (p b)) text in
-    elim (cases_lt (position_or_len p text) (length text)) [
-      | inl lt ↦ rw (lt-ltb _ _ lt) refl
-      | inr ge ↦ rw (le-ltb _ _ ge) (omega (arith, within, ge))
-    ]
+first_or_len p text = grind (arith, nat_tests, prefix_len-le-length (λ b. not (p b)) text)
 
 -- the blanks before the first other byte
 words_of-from : (text : List ℕ) (o : Option ℕ) → position (λ b. not (is_blank b)) text ≡ o → words_of (drop (unwrap_or o (length text)) text) ≡ words_of text

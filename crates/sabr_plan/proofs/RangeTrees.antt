@@ -12,10 +12,10 @@ use Rattle.std.specs.Ordering.{match_ordering, is_lt}
 use Rattle.std.specs.declared.cmp.Ordering.TheVariants.{Less, Equal}
 use Rattle.std.specs.declared.option.Option.{Option}
 use Rattle.std.specs.declared.option.Option.TheVariants.{Some, None}
-use Rattle.std.proofs.lemmas.Bool.{cases_order, cases_Bool, cases_lt, both_ways, false_from_ne_true}
+use Rattle.std.proofs.lemmas.Bool.{cases_order, cases_Bool, both_ways, false_from_ne_true}
 use Rattle.std.proofs.lemmas.Bool.Decides.{nat_tests}
 use Rattle.std.proofs.lemmas.Map.Entries.{lookup_head, lookup_tail, place_from_lookup, btree_map_get_place}
-use Rattle.std.proofs.lemmas.Option.{none-some, same_Some, slice_get-map, slice_get-get_or, slice_get_within}
+use Rattle.std.proofs.lemmas.Option.{same_Some, slice_get-map, slice_get-get_or, slice_get_within}
 use Rattle.std.proofs.lemmas.List.{length-map, get_or-drop, get_or_default}
 use Rattle.std.proofs.lemmas.List.Folds.{list_any_at}
 use Rattle.std.proofs.lemmas.List.Recursion.{or_from_places}
@@ -25,7 +25,7 @@ use Rattle.sabr_model.specs.plan.Plan.{IsPlan, IsNode, last_time, overlap, range
 use Rattle.sabr_model.specs.plan.Adding.{begins, by_range_key, range_refusal}
 use Rattle.sabr_model.specs.plan.RangeOrder.{IsRangeList}
 use Rattle.sabr_model.proofs.PlanLemmas.KeyOrder.{IsBy, by_key_total, less_is, not_less_is, not_both}
-use Rattle.sabr_model.proofs.PlanLemmas.RangeOrder.{range_list, overlap_parts}
+use Rattle.sabr_model.proofs.PlanLemmas.RangeOrder.{range_list}
 use Rattle.sabr_model.proofs.PlanLemmas.RangeLemmas.{accepted_range, IsPlan-range}
 use Rattle.sabr_model.proofs.PlanLemmas.Deletions.{IsPlan-fewer_ranges}
 use Rattle.sabr_plan.specs.Gathering.{keyed, plan_of_ranges, IsRangeTree}
@@ -93,15 +93,7 @@ overlap_from r s one other a b = grind (arith, nat_tests)
 
 -- between a range that it overlaps and its end it overlaps each
 squeezed : (r x s : Range) → overlap r x ≡ true → IsBy 0 (range_key x) (range_key s) → IsBy 1 (range_key s) (r.one, r.other, r.end) → s.start < s.end → overlap x s ≡ false → overlap r s ≡ true
-squeezed r x s both up low window apart =
-    let p = overlap_parts r x both in
-    let one : r.one ≡ s.one = omega (arith, p.0, up.first, low.first) in
-    let other : r.other ≡ s.other = omega (arith, p.1, up.second (sym p.0 ∙ one), low.second (sym one)) in
-    let from = up.third (sym p.0 ∙ one) (sym p.1 ∙ other) in
-    elim (cases_lt s.start x.end) [
-      | inl early ↦ absurd (both_ways (overlap x s) apart (overlap_from x s (sym p.0 ∙ one) (sym p.1 ∙ other) (omega (arith, from, window)) early))
-      | inr late ↦ overlap_from r s one other (omega (arith, p.2, late, window)) (let until = low.third (sym one) (sym other) in omega (arith, until))
-    ]
+squeezed r x s both up low window apart = grind (arith, nat_tests, up.first, up.second, up.third, low.first, low.second, low.third)
 
 module _ (m : BTreeMap Key Range) (rs : List Range) (holds : m.entries ≡ map keyed rs) (sorted : IsStrictlySortedBy by_key (map range_key rs)) (h : IsRangeList rs) (r : Range) (span : List (Key × Range)) (lies : IsRangeOf by_key Unbounded (Excluded (r.one, r.other, r.end)) m span) where
   abbrev bound : Key
@@ -115,17 +107,14 @@ module _ (m : BTreeMap Key Range) (rs : List Range) (holds : m.entries ≡ map k
 
   -- what it overlaps begins before its end
   before_end : (x : Range) → overlap r x ≡ true → by_key (range_key x) bound ≡ Less
-  before_end x both = let e = overlap_parts r x both in less_by (range_key x) bound (record { first = omega (arith, e.0); second = λ _. omega (arith, e.1); third = λ _ _. omega (arith, e.3) })
+  before_end x both = grind (arith, nat_tests)
 
   -- where none begins before its end, it overlaps none
   pub overlaps_no_range : span ≡ [] → list_any (overlap r) rs ≡ false
   overlaps_no_range is =
       or_from_places (list_any (overlap r)) (overlap r) refl (λ x ys. refl) rs no_range (λ k lt.
-      false_from_ne_true (overlap r (get_or rs k no_range)) (λ both.
       let x = get_or rs k no_range in
-      let none = lies.5 is (range_key x) (tt, before_end x both) in
-      let no : None ≡ Some x = sym none ∙ there k no_range lt in
-      none-some x no))
+      grind (arith, nat_tests, before_end x, lies.5 is (range_key x), there k no_range lt))
 
   -- the others overlap only if the last of these does
   pub overlaps_last : (t : List (Key × Range)) (e : Key × Range) → span ≡ t ++ e ∷ [] → list_any (overlap r) rs ≡ overlap r e.1

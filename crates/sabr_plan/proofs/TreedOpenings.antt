@@ -1,17 +1,16 @@
 -- A tree of the contacts that stand, by their openings: what it finds, and what one more leaves of it.
-use Rattle.std.proofs.Common.{◌≡◌, ℕ, zero, suc, ◌+◌, ◌<◌, true, false, cond, ◌&&◌, not, List, [], ◌∷◌, ◌++◌, length, get_or, set, refl, sym, ap, subst, ◌∙◌, inl, inr, arith, length-append}
+use Rattle.std.proofs.Common.{◌≡◌, ℕ, zero, suc, ◌+◌, ◌<◌, true, false, ◌&&◌, List, [], ◌∷◌, ◌++◌, length, get_or, set, refl, sym, ap, subst, ◌∙◌, inl, inr, arith, length-append}
 use Rattle.std.specs.List.{list_any}
 use Rattle.std.specs.declared.option.Option.TheVariants.{Some, None}
 use Rattle.std.specs.BTreeMap.{BTreeMap, get, is_at, Updates}
-use Rattle.std.proofs.lemmas.Bool.{and_parts, and_from, cases_eq, cases_lt, not-true, both_ways, false_from_ne_true}
+use Rattle.std.proofs.lemmas.Bool.{cases_eq, cases_lt, both_ways, false_from_ne_true}
 use Rattle.std.proofs.lemmas.Bool.Decides.{nat_tests}
 use Rattle.std.proofs.lemmas.List.{get_or_append_left, get_or_default, get_or-set_same, get_or-set_other, length-set}
 use Rattle.std.proofs.lemmas.List.Folds.{list_any_at}
 use Rattle.std.proofs.lemmas.List.Recursion.{or_from_places}
 use Rattle.sabr_model.specs.declared.contact.Contact.{Contact}
 use Rattle.sabr_model.specs.declared.opening.Opening.{Opening}
-use Rattle.sabr_model.specs.plan.Plan.{opens, same_opening, none_twice}
-use Rattle.sabr_model.proofs.PlanLemmas.Deletions.{opens_parts}
+use Rattle.sabr_model.specs.plan.Plan.{same_opening, none_twice}
 use Rattle.sabr_model.specs.Order.{by_key}
 use Rattle.sabr_plan.specs.Gathering.{stands, standing, stands_at, IsTreed}
 use Rattle.sabr_plan.proofs.GatheredOpenings.{any_standing, no_contact}
@@ -25,23 +24,16 @@ treed_none indexes cs = record { within = omega arith; found = λ k d lt stays. 
 module _ (o : Opening) (indexes : BTreeMap (ℕ × ℕ × ℕ) ℕ) (treed : ℕ) (cs : List Contact) (h : IsTreed indexes treed cs) (all : treed ≡ length cs) where
   at_own : (k : ℕ) → k < length cs → stands_at o (get_or cs k no_contact) ≡ true → get by_key indexes (o.from, o.to, o.start) ≡ Some k
   at_own k lt also =
-      let c = get_or cs k no_contact in
-      let both = and_parts (opens o.from o.to o.start c) (stands c) also in
-      let e = opens_parts o.from o.to o.start c both.0 in
-      rw (e.0, e.1, e.2) (h.found k no_contact (omega (arith, lt, all)) both.1)
+      let found = h.found k no_contact (omega (arith, lt, all)) in
+      grind (arith, nat_tests, found)
 
   pub nothing_there : get by_key indexes (o.from, o.to, o.start) ≡ None → list_any (stands_at o) cs ≡ false
   nothing_there is =
-      or_from_places (list_any (stands_at o)) (stands_at o) refl (λ x ys. refl) cs no_contact (λ k lt.
-      false_from_ne_true (stands_at o (get_or cs k no_contact)) (λ also. let no : None ≡ Some k = sym is ∙ at_own k lt also in absurd cc))
+      or_from_places (list_any (stands_at o)) (stands_at o) refl (λ x ys. refl) cs no_contact (λ k lt. grind (arith, nat_tests, at_own k lt))
 
   pub another_there : (i : ℕ) → get by_key indexes (o.from, o.to, o.start) ≡ Some i → (i < length cs → stands_at o (get_or cs i no_contact) ≡ false) → list_any (stands_at o) cs ≡ false
   another_there i is fails =
-      or_from_places (list_any (stands_at o)) (stands_at o) refl (λ x ys. refl) cs no_contact (λ k lt.
-      false_from_ne_true (stands_at o (get_or cs k no_contact)) (λ also.
-      let found : Some i ≡ Some k = sym is ∙ at_own k lt also in
-      let same : i ≡ k = cc in
-      both_ways (stands_at o (get_or cs k no_contact)) (subst (λ j. stands_at o (get_or cs j no_contact) ≡ false) same (fails (omega (arith, lt, same)))) also))
+      or_from_places (list_any (stands_at o)) (stands_at o) refl (λ x ys. refl) cs no_contact (λ k lt. grind (arith, nat_tests, at_own k lt))
 
 -- ---- one more
 
@@ -50,17 +42,11 @@ distinct : (cs : List Contact) (k j : ℕ) (d : Contact) → k < j → j < lengt
 distinct [] k j d less lt sk sj apart = absurd (omega (arith, lt))
 distinct (c ∷ cs) k zero d less lt sk sj apart = absurd (omega (arith, less))
 distinct (c ∷ cs) zero (suc j) d less lt sk sj apart =
-    let parts = and_parts (not (list_any (same_opening c) (standing cs))) (none_twice same_opening (standing cs)) (subst (λ b. none_twice same_opening (cond b (c ∷ standing cs) (standing cs)) ≡ true) sk apart) in
-    let none = any_standing (same_opening c) cs ∙ not-true (list_any (same_opening c) (standing cs)) parts.0 in
-    false_from_ne_true (same_opening c (get_or cs j d)) (λ also.
-    both_ways (list_any (λ e. same_opening c e && stands e) cs) none
-    (list_any_at (λ e. same_opening c e && stands e) cs j d (omega (arith, lt)) (and_from (same_opening c (get_or cs j d)) (stands (get_or cs j d)) also sj)))
+    let within : j < length cs = omega (arith, lt) in
+    grind (arith, nat_tests, any_standing (same_opening c) cs, list_any_at (λ e. same_opening c e && stands e) cs j d within)
 distinct (c ∷ cs) (suc k) (suc j) d less lt sk sj apart =
-    distinct cs k j d (omega (arith, less)) (omega (arith, lt)) sk sj
-    (elim (stands c) as (λ b. none_twice same_opening (cond b (c ∷ standing cs) (standing cs)) ≡ true → none_twice same_opening (standing cs) ≡ true) [
-      | true ↦ λ g. (and_parts (not (list_any (same_opening c) (standing cs))) (none_twice same_opening (standing cs)) g).1
-      | false ↦ λ g. g
-    ] apart)
+    let rest = distinct cs k j d (omega (arith, less)) (omega (arith, lt)) sk sj in
+    grind (arith, nat_tests, rest)
 
 abbrev key : Contact → ℕ × ℕ × ℕ
 key c = (c.from, c.to, c.start)

@@ -10,4 +10,4 @@ returns-clause-value g c =
     let i = c.self.inside in
     let s : Fed = record { lines = i.lines; reading = i.reading; held = i.held.items } in
     let inv = c.self.invariant in
-    rw (← c.self.view_is) (outcome-end s false inv.3 ∙ ap Err (broken_held i.lines i.held.items inv.0 inv.1 inv.2) ∙ sym ?)
+    rw (← c.self.view_is) (outcome-end s false inv.3 ∙ ap Err (broken_held i.lines i.held.items inv.0 inv.1 inv.2))
