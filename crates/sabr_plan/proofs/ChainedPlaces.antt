@@ -1,6 +1,6 @@
 -- Chains of places by buckets: what one more leaves of them, and what a walk along one shows.
 use Rattle.std.proofs.Common.{◌≡◌, ℕ, ◌-◌, ◌<◌, ◌≤◌, Bool, true, false, List, [], ◌∷◌, ◌++◌, length, get_or, map, refl, sym, ap, subst, ◌∙◌, inl, inr, arith, length-append}
-use Rattle.std.specs.Prelude.{slice_get, Some, option_map}
+use Rattle.std.specs.Prelude.{slice_get, Some}
 use Rattle.std.proofs.lemmas.Option.{slice_get-map, slice_get-get_or}
 use Rattle.std.specs.List.{list_any}
 use Rattle.std.proofs.lemmas.Bool.Decides.{nat_tests}
@@ -43,7 +43,7 @@ chained_push f xs x befores lasts h = subst (λ ks. AreChained ks befores lasts)
 
 -- the bucket of an element at a place
 pub bucket_at : {X : Type 0} (f : X → ℕ) (xs : List X) (d : X) (k n b : ℕ) → k ≡ n → k < length xs → b ≡ f (get_or xs k d) → slice_get (map f xs) n ≡ Some b
-bucket_at f xs d k n b e within is = subst (λ m. slice_get (map f xs) m ≡ Some b) e (slice_get-map f xs k ∙ ap (option_map f) (slice_get-get_or xs k d within) ∙ ap Some (sym is))
+bucket_at f xs d k n b e within is = rw (← e, slice_get-map f xs k, slice_get-get_or xs k d within) (ap Some (sym is))
 
 -- the same, where another table tells the same
 pub chained_told : (ks befores lasts lasts_then : List ℕ) → ((b : ℕ) → get_or lasts_then b 0 ≡ get_or lasts b 0) → AreChained ks befores lasts → AreChained ks befores lasts_then

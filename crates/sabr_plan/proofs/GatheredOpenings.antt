@@ -1,11 +1,11 @@
 -- What no two gathered contacts share, as the chains beside them have it.
-use Rattle.std.proofs.Common.{◌≡◌, ℕ, zero, suc, ◌<◌, Bool, true, false, cond, ◌&&◌, not, ltb, List, [], ◌∷◌, ◌++◌, filter, length, get_or, set, refl, sym, ap, subst, ◌∙◌, arith}
+use Rattle.std.proofs.Common.{◌≡◌, ℕ, zero, suc, ◌<◌, Bool, true, false, ◌&&◌, not, List, [], ◌∷◌, ◌++◌, filter, length, get_or, set, refl, sym, ap, subst, ◌∙◌, arith}
 use Rattle.sabr_model.proofs.ListLemmas.Ordered.{all_weaker}
 use Rattle.std.specs.Prelude.{slice_get, option_map, is_some}
-use Rattle.std.specs.List.{list_any, find, position, position_or_len}
+use Rattle.std.specs.List.{list_any, find, position}
 use Rattle.sabr_model.specs.declared.contact.Contact.{Contact}
 use Rattle.sabr_model.specs.declared.opening.Opening.{Opening}
-use Rattle.std.proofs.lemmas.Bool.{lt-leb, ne_eqb, and_parts, ltb-false, both_ways, false_from_ne_true}
+use Rattle.std.proofs.lemmas.Bool.{and_parts, both_ways}
 use Rattle.std.proofs.lemmas.List.{get_or_default}
 use Rattle.std.proofs.lemmas.Option.{slice_get-get_or}
 use Rattle.std.proofs.lemmas.List.Folds.{list_any_at}
@@ -15,7 +15,6 @@ use Rattle.std.proofs.lemmas.List.Sums.{fails_before_first}
 use Rattle.std.proofs.lemmas.List.Elements.{filter-append}
 use Rattle.std.specs.declared.option.Option.{Option}
 use Rattle.std.specs.declared.option.Option.TheVariants.{Some, None}
-use Rattle.sabr_model.specs.declared.fault.AddFault.TheVariants.{DuplicateContact}
 use Rattle.sabr_model.specs.plan.Plan.{ContactPlan, opens, same_opening, none_twice}
 use Rattle.sabr_model.specs.plan.Adding.{contact_refusal}
 use Rattle.sabr_model.specs.plan.Openings.{opening_of}
@@ -48,13 +47,10 @@ knows_push befores lasts in_order last o cs h by c is = (
   λ up. all_push (λ d. is_le (by_key (opening_key (opening_of d)) (opening_key o)) ≡ true) cs c (by up) (subst (λ p. is_le (by_key (opening_key p) (opening_key o)) ≡ true) (sym is) (le_itself (opening_key o))),
 )
 
--- over a window, between two nodes, and where there is room, a contact is refused as a duplicate or not at all
+-- over a window, between two nodes, and where there is room, a contact is refused only as a duplicate
 module _ (p : ContactPlan) (from to start end : ℕ) (window : start < end) (apart : from ≡ to → ⊥) (room : p.largest < 20000) where
-  refused_by_opening : contact_refusal p from to start end ≡ cond (list_any (opens from to start) p.contacts) (Some DuplicateContact) None
-  refused_by_opening = rw (lt-leb end start window, ne_eqb from to apart, lt-leb 20000 p.largest room) refl
-
   pub new_accepted : list_any (opens from to start) p.contacts ≡ false → contact_refusal p from to start end ≡ None
-  new_accepted new = refused_by_opening ∙ ap (λ b. cond b (Some DuplicateContact) None) new
+  new_accepted new = grind (arith, nat_tests)
 
 -- ---- contacts that stand
 
@@ -84,9 +80,7 @@ module _ (o : Opening) (cs : List Contact) where
   pub by_pass : (r : Option ℕ) → r ≡ position (stands_at o) cs → IsFound o cs r
   by_pass (Some k) e = let q = position-Some (stands_at o) cs k no_contact (sym e) in (q.0, found_at k q.0 q.1)
   by_pass None e =
-      let n = position_or_len (stands_at o) cs in
-      let all = ltb-false n (length cs) (false_from_ne_true (ltb n (length cs)) (λ yes. let no : None ≡ Some n = e ∙ ap (λ b. cond b (Some n) None) yes in absurd cc)) in
-      or_from_places (list_any (stands_at o)) (stands_at o) refl (λ x ys. refl) cs no_contact (λ j lt. fails_before_first (stands_at o) cs j no_contact (omega (arith, lt, all)))
+      or_from_places (list_any (stands_at o)) (stands_at o) refl (λ x ys. refl) cs no_contact (λ j lt. grind (arith, nat_tests, fails_before_first (stands_at o) cs j no_contact))
 
 -- the element at an index, by any value past the end
 pub there : (cs : List Contact) (k : ℕ) (c : Contact) → k < length cs → c ≡ get_or cs k c → c ≡ get_or cs k no_contact

@@ -25,7 +25,7 @@ use Rattle.sabr_plan.specs.declared.fault.PlanKind.TheVariants as kind
 use Rattle.sabr_model.specs.declared.fault.AddFault.TheVariants as add
 
 pub one_line-append : (a b : List ℕ) → is_one_line a ≡ true → is_one_line b ≡ true → is_one_line (a ++ b) ≡ true
-one_line-append a b h k = rw (list_all-append (λ x. not (eqb x 10)) a b, h, k) refl
+one_line-append a b h k = grind (arith, list_all-append (λ x. not (eqb x 10)) a b)
 
 -- no byte is LF
 pub one_line_from : (xs : List ℕ) → ((k : ℕ) → k < length xs → eqb (get_or xs k 0) 10 ≡ true → ⊥) → is_one_line xs ≡ true
@@ -93,8 +93,7 @@ module _ (first : Fed) (piece : List ℕ) (s : Fed) (rest : List ℕ) (same : (m
 
     -- which is more than it was
     pub line_grows : (new : Fed) → new.lines ≡ s.lines + 1 → new.held ≡ [] → length s.held + length front ≤ most_line_bytes → weight first + length piece ≤ weight s + length rest → weight first + length piece ≤ weight new + length back
-    line_grows new lines none short grows =
-        omega (arith, lines, ap length none, ap length parted, length-append front (10 ∷ back))
+    line_grows new lines none short grows = omega (arith, lines, ap length none, ap length parted, length-append front (10 ∷ back))
 
   -- what comes after the last LF is held, or refused
   pub rest_held : {U : Type 0} (new : Fed) (r : Result U PlanFault) → is_one_line rest ≡ true → OnOk r (new ≡ record { lines = s.lines; reading = s.reading; held = s.held ++ rest }) → IfErr r (λ f. (f ≡ broken_line (s.lines + 1) (s.held ++ rest)) × (f.kind ≢ kind.Read)) → IsFed first piece r new

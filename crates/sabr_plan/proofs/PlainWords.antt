@@ -1,11 +1,11 @@
 -- The words of a line, and graphic words, each after blanks.
-use Rattle.std.proofs.Common.{◌≡◌, ℕ, ◌-◌, ◌<◌, true, false, List, [], ◌∷◌, ◌++◌, length, take, drop, get_or, refl, sym, ap, ◌∙◌, inl, inr, arith, add-zero, append-nil, ◌≢◌, Bool, eqb, append_assoc, get_or-take, get_or-drop, length-append, length-take, length-drop, not}
+use Rattle.std.proofs.Common.{◌≡◌, ℕ, ◌-◌, ◌<◌, true, false, List, [], ◌∷◌, ◌++◌, length, take, drop, get_or, refl, sym, ap, ◌∙◌, inl, inr, arith, add-zero, append-nil, Bool, eqb, append_assoc, get_or-take, get_or-drop, length-append, length-take, length-drop, not}
 use Rattle.std.specs.Prelude.{Option, Some, None, unwrap_or}
 use Rattle.std.specs.List.{All, list_all, position, position_or_len}
 use Rattle.std.proofs.lemmas.List.Splits.{slice_split-cons_yes, slice_split_none, slice_split_at}
 use borrow.Author.Tests.{lt-ltb, ltb-true}
 use Rattle.sabr_plan.specs.Words.{is_blank, words_of, is_plain, is_comment, has_bytes, is_one_line}
-use Rattle.std.proofs.lemmas.Bool.{and_parts, both_ways, cases_lt, ne_eqb, false≢true, not-false, not-true}
+use Rattle.std.proofs.lemmas.Bool.{and_parts, both_ways, cases_lt, not-false, not-true}
 use Rattle.std.proofs.lemmas.Bool.Decides.{nat_tests}
 use Rattle.std.proofs.lemmas.List.Folds.{list_all-append}
 use Rattle.std.proofs.lemmas.List.{drop_all, take-append-drop}
@@ -131,9 +131,7 @@ first_of w text h ends =
 
 -- an LF that comes after plain bytes
 pub still_ended : (front rest : List ℕ) → list_all is_plain front ≡ true → is_one_line (front ++ rest) ≡ false → is_one_line rest ≡ false
-still_ended front rest plain lf =
-    let same : is_one_line (front ++ rest) ≡ is_one_line rest = list_all-append (λ b. not (eqb b 10)) front rest ∙ rw (plain_one front plain) refl in
-    sym same ∙ lf
+still_ended front rest plain lf = grind (arith, list_all-append (λ b. not (eqb b 10)) front rest, plain_one front plain)
 
 pub ended_blanks : {text rest : List ℕ} → IsAfterBlanks text rest → is_one_line text ≡ false → is_one_line rest ≡ false
 ended_blanks {text} {rest} after lf = still_ended after.blanks rest (plain_blanks after.blanks after.blank) (rw after.parts at lf)
@@ -195,7 +193,4 @@ first_a {text} {start} {rest} {words} after back = (
 -- a line of plain bytes with a first word `a` is no comment
 pub no_comment : (bs text : List ℕ) → list_all is_blank bs ≡ true → is_comment (bs ++ 97 ∷ text) ≡ false
 no_comment [] text h = refl
-no_comment (b ∷ bs) text h =
-    let blank = (and_parts (is_blank b) (list_all is_blank bs) h).0 in
-    let other : b ≢ 35 = λ e. false≢true (rw e at blank) in
-    ne_eqb b 35 other
+no_comment (b ∷ bs) text h = grind (arith, nat_tests)

@@ -1,5 +1,5 @@
 -- A tree of ranges by their keys: what it holds after a change, and which of its ranges a range can overlap.
-use Rattle.std.proofs.Common.{◌≡◌, ℕ, suc, ◌+◌, ◌-◌, ◌<◌, ◌≤◌, Bool, true, false, not, List, [], ◌∷◌, ◌++◌, length, get_or, drop, map, filter, refl, sym, ap, subst, ◌∙◌, inl, inr, length-drop, drop-cons, arith}
+use Rattle.std.proofs.Common.{◌≡◌, ℕ, ◌+◌, ◌-◌, ◌<◌, ◌≤◌, Bool, true, false, not, List, [], ◌∷◌, ◌++◌, length, get_or, drop, map, filter, refl, sym, ap, subst, ◌∙◌, inl, inr, length-drop, arith}
 use Rattle.std.specs.Prelude.{is_some, option_map, slice_get}
 use Rattle.std.specs.List.{list_any, AllByRecursion}
 use Rattle.std.specs.List.Sorted.{IsStrictlySortedBy}
@@ -16,7 +16,7 @@ use Rattle.std.proofs.lemmas.Bool.{cases_order, cases_Bool, both_ways, false_fro
 use Rattle.std.proofs.lemmas.Bool.Decides.{nat_tests}
 use Rattle.std.proofs.lemmas.Map.Entries.{lookup_head, lookup_tail, place_from_lookup, btree_map_get_place}
 use Rattle.std.proofs.lemmas.Option.{same_Some, slice_get-map, slice_get-get_or, slice_get_within}
-use Rattle.std.proofs.lemmas.List.{length-map, get_or-drop, get_or_default}
+use Rattle.std.proofs.lemmas.List.{length-map, drop_more, get_or-drop, get_or_default}
 use Rattle.std.proofs.lemmas.List.Folds.{list_any_at}
 use Rattle.std.proofs.lemmas.List.Recursion.{or_from_places}
 use Rattle.sabr_model.specs.declared.contact.Range.{Range}
@@ -165,13 +165,10 @@ pub planted_more : (rs : List Range) (k : ℕ) (d : Range) (es : List (Key × Ra
 planted_more rs k d es plan lt is =
     let r = get_or rs k d in
     let h = range_list (plan_of_ranges rs) plan in
-    let next : k + 1 ≡ suc k = omega arith in
     let after = all_from_places (λ s. by_range_key r s ≡ Less) (drop (k + 1) rs) (λ i e less.
     let within : k + 1 + i < length rs = omega (arith, less, length-drop (k + 1) rs) in
-    subst (λ s. by_range_key r s ≡ Less) (sym (get_or-drop (k + 1) rs i e)) (subst (λ s. by_range_key s (get_or rs (k + 1 + i) e) ≡ Less) (get_or_default rs k e d lt) (h.rises k (k + 1 + i) e (omega arith) within))) in
-    ap (λ xs. insert_entry by_key xs (range_key r) r) is
-    ∙ insert_first r (drop (k + 1) rs) after
-    ∙ ap (map keyed) (sym (drop-cons rs k d lt ∙ ap (λ m. r ∷ drop m rs) (sym next)))
+    rw (get_or-drop (k + 1) rs i e, ← get_or_default rs k e d lt) (h.rises k (k + 1 + i) e (omega arith) within)) in
+    ap (λ xs. insert_entry by_key xs (range_key r) r) is ∙ insert_first r (drop (k + 1) rs) after ∙ ap (map keyed) (sym (drop_more rs k d lt))
 
 module _ (m n : BTreeMap Key Range) (h : IsRangeTree m) where
   abbrev rs : List Range
@@ -201,5 +198,4 @@ module _ (m n : BTreeMap Key Range) (h : IsRangeTree m) where
 
   -- what is found
   pub tree_has : (one other start : ℕ) (all : List Range) (o : Option Range) → rs ≡ all → o ≡ lookup (is_at (by_key (one, other, start))) m.entries → list_any (begins one other start) all ≡ is_some o
-  tree_has one other start all o same is =
-      ap (list_any (begins one other start)) (sym same) ∙ any_found one other start rs ∙ sym (ap is_some (is ∙ ap (lookup (is_at (by_key (one, other, start)))) h.0))
+  tree_has one other start all o same is = grind (arith, any_found one other start rs, h.0)

@@ -146,4 +146,4 @@ module _ (low high : ℕ) (text : List ℕ) (h : high < 18446744073709551616) wh
         ]) refl
 
     pub within_yes : leads_with_zero text ≡ false → low ≤ v → v ≤ high → number_within low high text ≡ Some v
-    within_yes plain a b = within ∙ rw (plain, le-leb low v a, le-leb v high b) refl
+    within_yes plain a b = grind (arith, nat_tests, within)

@@ -18,7 +18,7 @@ use lib.Lanes.{number_l, digits_l}
 use Rattle.core.specs.Dec2flt.Digits.{IsEightBytes}
 use Rattle.sabr_plan.specs.declared.fault.PlanKind.TheVariants.{BadTime}
 use Rattle.sabr_plan.specs.Operands.{relative_of, after_reference, absolute_time, time_at}
-use Rattle.sabr_plan.specs.PlainWords.{is_graphic, is_graphic_word}
+use Rattle.sabr_plan.specs.PlainWords.{is_graphic_word}
 use Rattle.sabr_plan.proofs.SpelledNumbers.{bytes_are}
 
 -- the bytes of two digits, by the number that they stand for
@@ -163,9 +163,7 @@ clock_of-fields_of t = omega arith
 -- the bounds of clock fields
 pub fields_clock : (t : ℕ) (f : TimeFields) → fields_of t ≡ f → (f.hour ≤ 23) × (f.minute ≤ 59) × (f.second ≤ 59)
 unfolding fields_of
-fields_clock t f e =
-    let P : TimeFields → Type 0 = λ f. (f.hour ≤ 23) × (f.minute ≤ 59) × (f.second ≤ 59) in
-    subst P e (omega arith, omega arith, omega arith)
+fields_clock t f e = rw (← e) (omega arith, omega arith, omega arith)
 
 -- two seconds with the same fields are the same
 pub fields_of_injective : (t u : ℕ) → t ≤ last_spelled → u ≤ last_spelled → fields_of t ≡ fields_of u → t ≡ u
@@ -247,17 +245,8 @@ date_bytes text eight long =
     two : (xs : List ℕ) → (xs ++ get_or text 8 0 ∷ []) ++ get_or text 9 0 ∷ [] ≡ xs ++ get_or text 8 0 ∷ get_or text 9 0 ∷ []
     two xs = rw append_assoc refl
 
-high : (n : ℕ) → n < 100 → is_graphic (48 + n / 10) ≡ true
-high n h = rw (le-leb 33 (48 + n / 10) (omega arith), le-leb (48 + n / 10) 126 (omega arith)) refl
-
-low : (n : ℕ) → is_graphic (48 + n % 10) ≡ true
-low n = rw (le-leb 33 (48 + n % 10) (omega arith), le-leb (48 + n % 10) 126 (omega arith)) refl
-
 graphic_spelled : (f : TimeFields) → HasWidth f → is_graphic_word (spelled f) ≡ true
-graphic_spelled f w =
-    let century = high (f.year / 100) (omega (arith, w.year)) in
-    let year = high (f.year % 100) (omega arith) in
-    rw (century, low (f.year / 100), year, low (f.year % 100), high f.month w.month, low f.month, high f.day w.day, low f.day, high f.hour w.hour, low f.hour, high f.minute w.minute, low f.minute, high f.second w.second, low f.second) refl
+graphic_spelled f w = grind (arith, nat_tests)
 
 pub graphic_time : (t : ℕ) → t ≤ last_time → is_graphic_word (time_text_of t) ≡ true
 unfolding time_text_of

@@ -66,9 +66,7 @@ module _ (indexes : BTreeMap (ℕ × ℕ × ℕ) ℕ) (n : ℕ) (cs : List Conta
     found = λ k d less stays.
         elim (cases_lt k n) [
           | inl low ↦ h.found k d low stays
-          | inr high ↦
-              let here : k ≡ n = omega (arith, less, high) in
-              absurd (both_ways (stands (get_or cs n no_contact)) gone (subst (λ c. stands c ≡ true) (get_or_default cs n d no_contact lt) (subst (λ j. stands (get_or cs j d) ≡ true) here stays)))
+          | inr high ↦ let here : k ≡ n = omega (arith, less, high) in absurd (both_ways (stands (get_or cs n no_contact)) gone (rw (here, get_or_default cs n d no_contact lt) at stays))
         ];
   }
 
@@ -109,9 +107,7 @@ treed_set indexes n cs k c h lt gone = record {
   within = let low = h.within in omega (arith, low, length-set cs k c);
   found = λ j d less stays.
       elim (cases_eq j k) [
-        | inl here ↦ absurd (both_ways (stands c) gone (subst (λ x. stands x ≡ true) (get_or-set_same cs k c d lt) (subst (λ i. stands (get_or (set cs k c) i d) ≡ true) here stays)))
-        | inr other ↦
-            let same : get_or (set cs k c) j d ≡ get_or cs j d = get_or-set_other cs k j c d other in
-            rw same (h.found j d less (subst (λ x. stands x ≡ true) same stays))
+        | inl here ↦ absurd (both_ways (stands c) gone (rw (here, get_or-set_same cs k c d lt) at stays))
+        | inr other ↦ rw (get_or-set_other cs k j c d other) (h.found j d less (rw (get_or-set_other cs k j c d other) at stays))
       ];
 }
