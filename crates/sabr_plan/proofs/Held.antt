@@ -1,5 +1,5 @@
 -- Reading a text piece by piece: the bytes of a line that are held, and where a line ends.
-use Rattle.std.proofs.Common.{◌≡◌, ℕ, ◌+◌, ◌*◌, ◌-◌, ◌<◌, ◌≤◌, true, Result, Ok, Err, ◌⊎◌, not, eqb, List, [], ◌++◌, length, take, get_or, refl, sym, ap, ◌∙◌, arith, length-take, get_or-take, ◌≢◌, inl, inr, Bool, ◌∷◌, append_assoc, OnOk, IfErr, length-append, false, Option, Some, None, is_some, ok_or, subst}
+use Rattle.std.proofs.Common.{◌≡◌, ℕ, ◌+◌, ◌*◌, ◌-◌, ◌<◌, ◌≤◌, true, Result, Ok, Err, ◌⊎◌, not, eqb, List, [], ◌++◌, length, take, get_or, refl, sym, ap, ◌∙◌, arith, length-take, get_or-take, ◌≢◌, inl, inr, Bool, ◌∷◌, append_assoc, OnOk, IfErr, length-append, subst}
 use Rattle.std.proofs.lemmas.Bool.Decides.{nat_tests}
 use Rattle.std.proofs.lemmas.Grind.{get_or_default_zero}
 use Rattle.std.proofs.lemmas.List.Sums.{list_all-from_AllPass}
@@ -8,14 +8,11 @@ use borrow.Author.Tests.{le-ltb}
 use Rattle.sabr_plan.specs.declared.fault.PlanKind.{PlanKind}
 use Rattle.sabr_plan.specs.Words.{is_one_line}
 use Rattle.sabr_plan.specs.Feeding.{Fed, EndsLine, outcome, IsFed, weight, nothing_fed, Answers}
-use Rattle.sabr_plan.specs.Reading.{Reading, Leaves, most_line_bytes, most_lines, line_executed, limited, broken_line, read_line, kind_of, changed, unless_named, plan_of}
+use Rattle.sabr_plan.specs.Reading.{Reading, Leaves, most_line_bytes, most_lines, line_executed, limited, broken_line, read_line, plan_of}
 use Rattle.sabr_plan.specs.declared.fault.PlanFault.{PlanFault}
 use Rattle.sabr_plan.specs.Steps.{and_then}
 use Rattle.sabr_plan.proofs.Outcomes.{outcome-line, outcome-held, outcome-refused, plan_of-outcome}
-use Rattle.std.specs.Prelude.{IsOk, MatchResult}
-use Rattle.std.specs.Result.{IsOkUnless}
-use Rattle.sabr_model.specs.plan.Plan.{ContactPlan, TabledPlan}
-use Rattle.sabr_model.specs.declared.fault.AddFault.{AddFault}
+use Rattle.sabr_model.specs.plan.Plan.{TabledPlan}
 use Rattle.sabr_model.specs.Devices.{Input, Gives}
 use Rattle.sabr_plan.specs.TextReading.{AreRefused, ContinuesAs}
 use Rattle.sabr_plan.specs.PlanRead.{IsNoMemory, IsRead, ReadsPlan}
@@ -100,37 +97,6 @@ module _ (first : Fed) (piece : List ℕ) (s : Fed) (rest : List ℕ) (same : (m
   rest_held new (Ok u) one ok err = λ more ended. same more ended ∙ outcome-held s rest more ended ∙ ap (λ t. outcome t more ended) (sym ok)
   rest_held new (Err f) one ok err =
       inr (λ more ended. same more ended ∙ outcome-refused s rest more ended held one (λ e. err.1 (ap (λ (g : PlanFault). g.kind) err.0 ∙ e)) ∙ ap Err (sym err.0))
-
--- ---- a change of a plan, as its call returns it
-
--- what a call returns that may be refused in this way, and by memory
-pub record IsAnswered {X : Type 0} (refusal : Option AddFault) (r : Result X AddFault) (p new : ContactPlan) : Type 0 where
-  pub refused : (f : AddFault) → refusal ≡ Some f → (r ≡ Err f) ⊎ (r ≡ Err add.NoMemory)
-  pub accepted : refusal ≡ None → IsOkUnless r add.NoMemory
-  pub ok : OnOk r (new ≡ p)
-
--- what its line leaves
-pub changed_leaves : {X U : Type 0} (refusal : Option AddFault) (reference : Option ℕ) (r : Result X AddFault) (p new : ContactPlan) (s : Result U PlanKind) → IsAnswered refusal r p new → MatchResult r (λ _. IsOk s) (λ f. s ≡ Err (kind_of f))
-    → Leaves (changed refusal reference p) s (record { plan = new; reference = reference })
-changed_leaves (Some f) reference (Ok x) p new s is told = absurd (elim (is.refused f refl) [ inl e ↦ cc | inr e ↦ cc ])
-changed_leaves (Some f) reference (Err g) p new s is told =
-    rw told (elim (is.refused f refl) [
-      | inl e ↦ let same : f ≡ g = cc in inr (ap (λ h. Err (kind_of h)) same)
-      | inr e ↦ let same : g ≡ add.NoMemory = cc in inl (ap kind_of same)
-    ])
-changed_leaves None reference (Ok x) p new (Ok u) is told = ap (λ q. Ok (record { plan = q; reference = reference })) (sym is.ok)
-changed_leaves None reference (Ok x) p new (Err k) is told = absurd cc
-changed_leaves None reference (Err f) p new s is told = rw told (inl (ap kind_of (is.accepted refl)))
-
--- a deletion of a contact
-pub contact_deleted : (o : Option ℕ) (r : Result ℕ AddFault) (p new : ContactPlan) → r ≡ ok_or o add.NothingToDelete → OnOk r (new ≡ p) → IsAnswered (unless_named (is_some o)) r p new
-contact_deleted (Some n) r p new e ok = record { refused = λ f is. absurd cc; accepted = λ is. rw e tt; ok = ok }
-contact_deleted None r p new e ok = record { refused = λ f is. let same : add.NothingToDelete ≡ f = cc in inl (e ∙ ap Err same); accepted = λ is. absurd cc; ok = ok }
-
--- and of a range
-pub range_deleted : {X : Type 0} (named : Bool) (r : Result X AddFault) (p new : ContactPlan) → (named ≡ false → (r ≡ Err add.NothingToDelete) ⊎ (r ≡ Err add.NoMemory)) → (named ≡ true → IsOkUnless r add.NoMemory) → OnOk r (new ≡ p) → IsAnswered (unless_named named) r p new
-range_deleted true r p new refused accepted ok = record { refused = λ f is. absurd cc; accepted = λ _. accepted refl; ok = ok }
-range_deleted false r p new refused accepted ok = record { refused = λ f is. let same : add.NothingToDelete ≡ f = cc in rw (← same) (refused refl); accepted = λ is. absurd cc; ok = ok }
 
 -- ---- what reading leaves, call by call
 

@@ -151,24 +151,21 @@ impl<A: Allocator + Copy> PlanReading<A> {
                 self.reference = Reference::at(time);
                 Ok(())
             }
-            Command::Add(Target::Contact, a) => self.add_contact(a),
+            Command::Add(Target::Contact, a) => answered(
+                self.contacts
+                    .add(a.first, a.second, a.start, a.end, a.value),
+            ),
             Command::Add(Target::Range, a) => self.add_range(a),
-            Command::Delete(Target::Contact, d) => self.delete_contact(d),
-            Command::Delete(Target::Range, d) => self.delete_range(d),
+            Command::Delete(Target::Contact, d) => {
+                answered(self.contacts.delete(d.first, d.second, d.start))
+            }
+            Command::Delete(Target::Range, d) => {
+                answered(self.ranges.delete(d.first, d.second, d.start))
+            }
         }
     }
 
-    #[inline(always)]
-    fn add_contact(&mut self, a: Addition) -> Result<(), PlanKind>
-        requires { HasBounds (Add target.Contact a) }
-        ensures { Leaves (executed self.old (Add target.Contact a)) result self.new }
-    {
-        answered(
-            self.contacts
-                .add(a.first, a.second, a.start, a.end, a.value),
-        )
-    }
-
+    #[tactic(auto, unfolding(crate::specs::Reading::executed))]
     #[inline(never)]
     fn add_range(&mut self, a: Addition) -> Result<(), PlanKind>
         requires { HasBounds (Add target.Range a) }
@@ -176,17 +173,5 @@ impl<A: Allocator + Copy> PlanReading<A> {
     {
         let light = a.value as u32;
         answered(self.ranges.add(a.first, a.second, a.start, a.end, light))
-    }
-
-    fn delete_contact(&mut self, d: Deletion) -> Result<(), PlanKind>
-        ensures { Leaves (executed self.old (Delete target.Contact d)) result self.new }
-    {
-        answered(self.contacts.delete(d.first, d.second, d.start))
-    }
-
-    fn delete_range(&mut self, d: Deletion) -> Result<(), PlanKind>
-        ensures { Leaves (executed self.old (Delete target.Range d)) result self.new }
-    {
-        answered(self.ranges.delete(d.first, d.second, d.start))
     }
 }
