@@ -113,25 +113,6 @@ fn number_ahead(low: u64, high: u64, text: &[u8], room: usize) -> Option<(u64, &
     Some((value, rest))
 }
 
-/// Reads a relative time at the front of a text. Returns the time and the text after it. `None` means: use the general
-/// reader.
-#[inline(always)]
-fn relative_front<'a>(reference: &Reference, text: &'a [u8]) -> Option<(u64, &'a [u8])>
-    requires ended { IsFalse (is_one_line text.now) }
-    requires room { 19 ≤ length text.now }
-    ensures word { IfSome result (λ r. IsFront (λ w. time_at reference.now w ≡ Ok r.0) text.now r.1.now) }
-    ensures room { IfSome result (λ r. length text.now ≤ length r.1.now + 19) }
-{
-    let (seconds, digits, rest) = leading_digits(after_byte(text, b'+')?);
-    if digits.is_empty() || digits.len() > 12 {
-        return None;
-    }
-    let Ok(time) = reference.after(seconds) else {
-        return None;
-    };
-    Some((time, rest))
-}
-
 /// Reads a time at the front of a text. Returns the time and the text after it. `None` means: use the general reader.
 #[inline(always)]
 fn time_front<'a>(
@@ -144,8 +125,15 @@ fn time_front<'a>(
     ensures word { IfSome result (λ r. IsFront (λ w. time_at reference.now w ≡ Ok r.0) text.now r.1.now) }
     ensures room { IfSome result (λ r. length text.now ≤ length r.1.now + 19) }
 {
-    if text[0] == b'+' {
-        return relative_front(reference, text);
+    if let Some(text) = after_byte(text, b'+') {
+        let (seconds, digits, rest) = leading_digits(text);
+        if digits.is_empty() || digits.len() > 12 {
+            return None;
+        }
+        let Ok(time) = reference.after(seconds) else {
+            return None;
+        };
+        return Some((time, rest));
     }
     let (word, rest) = text.split_at(WORD_BYTES);
     let time = day.second_of(word)?;
