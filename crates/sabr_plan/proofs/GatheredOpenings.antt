@@ -15,13 +15,13 @@ use Rattle.std.proofs.lemmas.List.Sums.{fails_before_first}
 use Rattle.std.proofs.lemmas.List.Elements.{filter-append}
 use Rattle.std.specs.declared.option.Option.{Option}
 use Rattle.std.specs.declared.option.Option.TheVariants.{Some, None}
-use Rattle.sabr_model.specs.plan.Plan.{ContactPlan, opens, same_opening, none_twice}
+use Rattle.sabr_model.specs.plan.Plan.{opens, same_opening, none_twice}
 use Rattle.sabr_model.specs.plan.Adding.{contact_refusal}
 use Rattle.sabr_model.specs.plan.Openings.{opening_of}
 use Rattle.sabr_model.specs.Order.{by_key}
 use Rattle.std.specs.Ordering.{is_le, is_gt}
 use Rattle.sabr_model.proofs.PlanLemmas.KeyOrder.{le_itself}
-use Rattle.sabr_plan.specs.Gathering.{stands, standing, stands_at, IsFound, opening_key, contact_bucket, OpenBy, KnowsSome}
+use Rattle.sabr_plan.specs.Gathering.{plan_of_contacts, stands, standing, stands_at, IsFound, opening_key, contact_bucket, OpenBy, KnowsSome}
 use Rattle.sabr_model.proofs.PlanLemmas.ContactLemmas.{all_push}
 use Rattle.sabr_model.proofs.PlanLemmas.Deletions.{opens_parts}
 use Rattle.sabr_model.proofs.PlanLemmas.RangeOrder.{find_none}
@@ -47,17 +47,17 @@ knows_push befores lasts in_order last o cs h by c is = (
   λ up. all_push (λ d. is_le (by_key (opening_key (opening_of d)) (opening_key o)) ≡ true) cs c (by up) (subst (λ p. is_le (by_key (opening_key p) (opening_key o)) ≡ true) (sym is) (le_itself (opening_key o))),
 )
 
--- over a window, between two nodes, and where there is room, a contact is refused only as a duplicate
-module _ (p : ContactPlan) (from to start end : ℕ) (window : start < end) (apart : from ≡ to → ⊥) (room : p.largest < 20000) where
-  pub new_accepted : list_any (opens from to start) p.contacts ≡ false → contact_refusal p from to start end ≡ None
-  new_accepted new = grind (arith, nat_tests)
-
 -- ---- contacts that stand
 
 -- a test of those that stand
 pub any_standing : (p : Contact → Bool) (cs : List Contact) → list_any (λ c. p c && stands c) cs ≡ list_any p (standing cs)
 any_standing p [] = refl
 any_standing p (c ∷ cs) = grind (arith, nat_tests, any_standing p cs)
+
+-- over a window, between two nodes, and where there is room, a contact is refused only as a duplicate
+pub new_accepted : (cs : List Contact) (largest : ℕ) (o : Opening) (end : ℕ) → o.start < end → (o.from ≡ o.to → ⊥) → largest < 20000 → list_any (stands_at o) cs ≡ false
+    → contact_refusal (plan_of_contacts (standing cs) largest) o.from o.to o.start end ≡ None
+new_accepted cs largest o end window apart room new = grind (arith, nat_tests, any_standing (opens o.from o.to o.start) cs)
 
 -- what an index past the end gives
 abbrev pub no_contact : Contact

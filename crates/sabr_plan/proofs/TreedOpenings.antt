@@ -1,9 +1,9 @@
 -- A tree of the contacts that stand, by their openings: what it finds, and what one more leaves of it.
-use Rattle.std.proofs.Common.{◌≡◌, ℕ, zero, suc, ◌+◌, ◌<◌, true, false, ◌&&◌, List, [], ◌∷◌, ◌++◌, length, get_or, set, refl, sym, ap, subst, ◌∙◌, inl, inr, arith, length-append}
+use Rattle.std.proofs.Common.{◌≡◌, ℕ, zero, suc, ◌+◌, ◌<◌, true, false, ◌&&◌, List, [], ◌∷◌, ◌++◌, length, get_or, set, refl, subst, ◌∙◌, inl, inr, arith, length-append}
 use Rattle.std.specs.List.{list_any}
 use Rattle.std.specs.declared.option.Option.TheVariants.{Some, None}
 use Rattle.std.specs.BTreeMap.{BTreeMap, get, is_at, Updates}
-use Rattle.std.proofs.lemmas.Bool.{cases_eq, cases_lt, both_ways, false_from_ne_true}
+use Rattle.std.proofs.lemmas.Bool.{cases_eq, cases_lt, both_ways}
 use Rattle.std.proofs.lemmas.Bool.Decides.{nat_tests}
 use Rattle.std.proofs.lemmas.List.{get_or_append_left, get_or_default, get_or-set_same, get_or-set_other, length-set}
 use Rattle.std.proofs.lemmas.List.Folds.{list_any_at}
@@ -51,12 +51,9 @@ distinct (c ∷ cs) (suc k) (suc j) d less lt sk sj apart =
 abbrev key : Contact → ℕ × ℕ × ℕ
 key c = (c.from, c.to, c.start)
 
--- keys are equal where openings are
-tied : (c d : Contact) → same_opening c d ≡ is_at (by_key (key c)) (key d)
-tied c d = grind (arith, nat_tests)
-
-flipped : (c d : Contact) → same_opening c d ≡ true → same_opening d c ≡ true
-flipped c d also = grind (arith, nat_tests)
+-- keys differ where openings do
+untied : (c d : Contact) → same_opening c d ≡ false → is_at (by_key (key d)) (key c) ≡ false
+untied c d differ = grind (arith, nat_tests)
 
 module _ (indexes : BTreeMap (ℕ × ℕ × ℕ) ℕ) (n : ℕ) (cs : List Contact) (h : IsTreed indexes n cs) (lt : n < length cs) where
   -- one that doesn't stand
@@ -75,18 +72,12 @@ module _ (indexes : BTreeMap (ℕ × ℕ × ℕ) ℕ) (n : ℕ) (cs : List Conta
   treed_more then apart here u = record {
     within = omega (arith, lt);
     found = λ k d less stays.
-        let c = get_or cs n no_contact in
+        let same = get_or_default cs n d no_contact lt in
         elim (cases_lt k n) [
           | inl low ↦
-              let e = get_or cs k d in
-              let same : get_or cs n d ≡ c = get_or_default cs n d no_contact lt in
-              let differ : same_opening e c ≡ false = subst (λ x. same_opening e x ≡ false) same (distinct cs k n d low lt stays (subst (λ x. stands x ≡ true) (sym same) here) apart) in
-              u.2 (key e) (sym (tied c e) ∙ false_from_ne_true (same_opening c e) (λ also. both_ways (same_opening e c) differ (flipped c e also)))
-              ∙ h.found k d low stays
-          | inr high ↦
-              let at : k ≡ n = omega (arith, less, high) in
-              let same : get_or cs k d ≡ c = ap (λ j. get_or cs j d) at ∙ get_or_default cs n d no_contact lt in
-              ap (λ x. get by_key then (key x)) same ∙ u.1 ∙ ap Some (sym at)
+              let differ = distinct cs k n d low lt stays (rw same here) apart in
+              u.2 (key (get_or cs k d)) (untied (get_or cs k d) (get_or cs n no_contact) (rw same at differ)) ∙ h.found k d low stays
+          | inr high ↦ let at : k ≡ n = omega (arith, less, high) in rw (at, same) u.1
         ];
   }
 

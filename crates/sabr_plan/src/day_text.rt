@@ -45,6 +45,7 @@ impl DayText {
     }
 
     /// Returns the text of the second of the day that is this many seconds after its first.
+    #[tactic(auto, unfolding(crate::specs::Times::time_text_of, crate::specs::Times::fields_of))]
     fn at_clock(&self, clock: u32) -> [u8; 19]
         requires { clock < 86400 }
         ensures { result ≡ time_text_of (self.now.begin + clock) }

@@ -43,6 +43,7 @@ impl<A: Allocator + Copy> Model for PlanFeed<A> {
 }
 
 /// Returns the lines of a chunk with their LF, and the bytes after the last LF.
+#[tactic(auto, using(crate::proofs::Held::one_line_from))]
 fn ended_lines(piece: &[u8]) -> (&[u8], &[u8])
     ensures parts { piece.now ≡ result.0.now ++ result.1.now }
     ensures ended { 0 < length result.0.now → slice_index result.0.now (length result.0.now - 1) ≡ 10 }
@@ -194,6 +195,7 @@ impl<A: Allocator + Copy> PlanFeed<A> {
     }
 
     /// Reads the held line with these bytes at its end, if it is within the limits.
+    #[tactic(auto, using(crate::proofs::Held::held_line_executed), unfolding(crate::specs::Reading::limited))]
     fn take_line(&mut self, back: &[u8]) -> Result<(), PlanKind>
         requires { IsTrue (is_one_line back.now) }
         ensures value { Leaves (limited (self.old.lines + 1) self.old.reading (self.old.held ++ back.now)) result self.new.reading }

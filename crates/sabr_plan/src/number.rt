@@ -20,6 +20,7 @@ fn push_digit(value: u64, byte: u8) -> Option<u64>
 }
 
 /// Returns the value of a word of digits. `None` for an empty word, another byte, or a value of 2^64 or more.
+#[tactic(auto, using(crate::proofs::SpelledNumbers::take_digit, crate::proofs::SpelledNumbers::take_digits, crate::proofs::SpelledNumbers::small_value_over))]
 pub fn digits_value(word: &[u8]) -> Option<u64>
     ensures { result ≡ (if are_digits word.now && nat_lt (digits_value 10 word.now) 18446744073709551616 then Some (digits_value 10 word.now) else None) }
 {

@@ -31,6 +31,7 @@ pub fn first_piece(text: &[u8], separator: u8) -> (&[u8], Option<&[u8]>)
 }
 
 /// Returns the index of the first LF. `None` if there is none. Its time grows with the index.
+#[tactic(auto, using(crate::proofs::Held::one_line_from, crate::proofs::Held::one_line_before))]
 pub fn line_end(text: &[u8]) -> Option<usize>
     ensures { MatchOption result (IsTrue (is_one_line text.now)) (λ end. (end < length text.now) × (slice_index text.now end ≡ 10) × IsTrue (is_one_line (take end text.now))) }
 {

@@ -60,6 +60,7 @@ fn first_other(text: &[u8]) -> Option<usize>
 }
 
 /// Returns the first word and the text after it, if there is a word.
+#[tactic(auto, using(crate::proofs::PlainWords::no_word, crate::proofs::PlainWords::first_word))]
 pub fn next_word(text: &[u8]) -> Option<(&[u8], &[u8])>
     ensures { MatchOption result (words_of text.now ≡ []) (λ w. words_of text.now ≡ w.0.now ∷ words_of w.1.now) }
 {

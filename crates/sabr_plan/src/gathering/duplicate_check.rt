@@ -55,6 +55,7 @@ impl<A: Allocator + Copy> DuplicateCheck<A> {
     }
 
     /// Returns true if one of these contacts stands and has this opening, that of a contact that is to come after them.
+    #[tactic(auto, using(crate::proofs::GatheredOpenings::after_all, crate::proofs::GatheredOpenings::later_opening, crate::proofs::GatheredOpenings::found_any))]
     #[inline(always)]
     pub fn has(&mut self, contacts: &[Contact], opening: Opening) -> bool
         requires knows { KnowsSome self.old.chains.befores.items self.old.chains.lasts.items self.old.in_order self.old.last contacts.now }

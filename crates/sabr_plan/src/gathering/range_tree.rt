@@ -81,6 +81,7 @@ impl<A: Allocator + Copy> RangeTree<A> {
 
     /// Deletes the range of this ordered pair that begins at this start, in O(log n). The error is `NothingToDelete` if
     /// there is none.
+    #[tactic(auto, using(crate::proofs::RangeTrees::tree_has))]
     pub fn delete(&mut self, one: u64, other: u64, start: u64) -> Result<(), AddFault>
         ensures refused { IsFalse (list_any (begins one other start) self.old) → result ≡ Err NothingToDelete }
         ensures accepted { IsTrue (list_any (begins one other start) self.old) → IsOkUnless result NoMemory }

@@ -1,14 +1,11 @@
 -- The contact ends at its start, and its opening stays in its chain.
 use Rattle.std.proofs.Common.{true, false, map, ◌≡◌, ◌∙◌, get_or, set, not, refl, sym, ap, subst}
 use Rattle.std.proofs.Math.Seq.{map-set_same}
-use Rattle.std.specs.Option.{option_map}
 use Rattle.std.specs.Prelude.{Some, None, ok_or}
-use Rattle.std.specs.declared.option.Option.{Option}
 use Rattle.sabr_model.specs.declared.contact.Contact.{Contact}
 use Rattle.sabr_model.specs.declared.opening.Opening.{Opening}
 use Rattle.sabr_model.specs.declared.fault.AddFault.TheVariants.{NothingToDelete}
-use Rattle.sabr_model.specs.plan.Plan.{ContactPlan, IsPlan, opens}
-use Rattle.sabr_model.specs.plan.Adding.{without_contact, number_of_opening}
+use Rattle.sabr_model.specs.plan.Plan.{IsPlan, opens}
 use Rattle.sabr_model.proofs.PlanLemmas.Deletions.{IsPlan-fewer_contacts}
 use Rattle.sabr_plan.specs.Gathering.{AreChained, plan_of_contacts, standing, contact_bucket, KnowsSome, IsFound, IsTreed}
 use Rattle.sabr_plan.proofs.GatheredOpenings.{ended, no_contact, deletes, gone, none_found, open_by_set, there}
@@ -20,8 +17,7 @@ returns-in_default-clause-value g c =
     let o : Opening = record { from = c.args.from; to = c.args.to; start = c.args.start } in
     let cs = c.self.inside.contacts.items in
     let found : IsFound o cs None = subst (λ ds. IsFound o ds None) c.deref.ensures.value (c.in_default.ensures {u = tt}).found in
-    ap (λ (r : Option Contact). ok_or (option_map (λ (d : Contact). d.number) r) NothingToDelete) (sym (none_found o cs found))
-    ∙ ap (λ (q : ContactPlan). ok_or (number_of_opening q o.from o.to o.start) NothingToDelete) c.self.view_is
+    rw (← c.self.view_is, none_found o cs found) refl
 
 pub invariant_of-self-2 : goal.invariant_of-self-2
 invariant_of-self-2 g c =
@@ -51,9 +47,7 @@ returns-clause-value g c =
     let cs = c.self.inside.contacts.items in
     let k = c.in-Some.index in
     let found : IsFound o cs (Some k) = subst (λ ds. IsFound o ds (Some k)) c.deref.ensures.value (c.in-Some.ensures {u = tt}).found in
-    ap (λ (d : Contact). ok_or (Some d.number) NothingToDelete) (there cs k c.index.result.now found.0 c.index.ensures)
-    ∙ ap (λ (r : Option Contact). ok_or (option_map (λ (d : Contact). d.number) r) NothingToDelete) (sym (deletes o cs k found c.self.invariant.0.openings_differ).1)
-    ∙ ap (λ (q : ContactPlan). ok_or (number_of_opening q o.from o.to o.start) NothingToDelete) c.self.view_is
+    rw (← c.self.view_is, (deletes o cs k found c.self.invariant.0.openings_differ).1) (ap (λ (d : Contact). ok_or (Some d.number) NothingToDelete) (there cs k c.index.result.now found.0 c.index.ensures))
 
 pub returns-clause-ok : goal.returns-clause-ok
 returns-clause-ok g c =
@@ -63,6 +57,4 @@ returns-clause-ok g c =
     let k = c.in-Some.index in
     let found : IsFound o cs (Some k) = subst (λ ds. IsFound o ds (Some k)) c.deref.ensures.value (c.in-Some.ensures {u = tt}).found in
     let left = deletes o cs k found c.self.invariant.0.openings_differ in
-    ap (λ x. plan_of_contacts (standing (set cs k (ended x c.args.start))) s.largest) (there cs k c.index_mut.result.now found.0 c.index_mut.ensures.value)
-    ∙ ap (λ ds. plan_of_contacts ds s.largest) left.0
-    ∙ ap (λ (q : ContactPlan). without_contact q c.args.from c.args.to c.args.start) c.self.view_is
+    rw (← c.self.view_is) (ap (λ x. plan_of_contacts (standing (set cs k (ended x c.args.start))) s.largest) (there cs k c.index_mut.result.now found.0 c.index_mut.ensures.value) ∙ ap (λ ds. plan_of_contacts ds s.largest) left.0)
