@@ -124,6 +124,9 @@ module _ (year month day : ℕ) (y : year < 10000) (m : month < 100) (d : day < 
         let small : n ≤ 2932896 = omega arith in
         ((small, day_is_of n small (omega (arith, signed_arith))), λ none. absurd cc)
 
--- a year of that size keeps its value when cast
-pub cast_year : (z : ℤ) (n : ℕ) → z ≡ pos n → n < 10000 → to_z w16 (of_z w16 z) ≡ pos n
-cast_year z n e h = omega (arith, signed_arith)
+-- the date this many days after the calendar's first has the day's month and day, and its year, also when cast
+pub date_of_day : (n : ℕ) (date : Date) → n ≤ 2932896 → (epoch_day date +ℤ pos 4371587) ≡ pos (n + 4371587) → (to_z w16 (of_z w16 date.year) ≡ pos (day_after_epoch n).year) × (date.month ≡ (day_after_epoch n).month) × (date.day ≡ (day_after_epoch n).day)
+date_of_day n date h e =
+    let same = same_day n date h (omega (arith, signed_arith)) in
+    let is = day_after_epoch_is n h in
+    (omega (arith, signed_arith, same.0, is.civil.0), same.1, same.2)

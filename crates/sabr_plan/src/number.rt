@@ -46,6 +46,7 @@ pub fn leads_with_zero(word: &[u8]) -> bool
 
 /// Returns the value of a text of decimal digits without a sign or leading zero (this project's profile). `None` for
 /// any other text, or if the value is below `low` or above `high`. Its time grows with the text's length.
+#[tactic(auto, using(crate::proofs::SpelledNumbers::within_none))]
 pub fn number_within(text: &[u8], low: u64, high: u64) -> Option<u64>
     ensures value { result ≡ number_within low high text.now }
     ensures range { IfSome result (λ n. (low ≤ n) × (n ≤ high)) }

@@ -20,6 +20,7 @@ use std::alloc::Allocator;
 ///
 /// The first bad line, and of that line the first kind that applies. `Read` only if the reader failed, and `NoMemory`
 /// only if an allocation failed. The number of bytes after a bad line that were taken from the reader is unspecified.
+#[tactic(auto, using(crate::proofs::TextReading::nothing_read, crate::proofs::TextReading::piece_read, crate::proofs::Held::at_first))]
 pub fn read_plan<R: Read, A: Allocator + Copy>(
     alloc: A,
     reader: &mut R,

@@ -60,6 +60,7 @@ fn day_number(year: u16, month: u8, day: u8) -> Option<u32>
 
 /// Returns the second with these calendar and clock fields. `None` if there is no such second up to the latest time,
 /// the last second of the year 9998.
+#[tactic(auto, using(crate::proofs::Spelling::fields_clock))]
 fn second_of(fields: TimeFields) -> Option<u64>
     requires { HasWidth fields }
     ensures some { IfSome result (λ t. (fields_of t ≡ fields) × (t ≤ last_time)) }

@@ -85,7 +85,7 @@ impl<A: Allocator + Copy> OpeningTree<A> {
 
     /// Returns the index of the contact that stands and has this opening, or `None`. It is a pass over the contacts if an
     /// allocation for the tree fails.
-    #[tactic(auto, using(crate::proofs::GatheredOpenings::by_pass))]
+    #[tactic(auto, using(crate::proofs::GatheredOpenings::by_pass, crate::proofs::GatheredOpenings::found_at))]
     #[cold]
     #[inline(never)]
     pub fn find(&mut self, contacts: &[Contact], opening: &Opening) -> Option<usize>

@@ -1,11 +1,8 @@
 -- What digits stand for is what they spell.
 use Rattle.std.proofs.Common.{sym, ◌∙◌, arith}
 use Rattle.std.proofs.lemmas.Bool.Decides.{nat_tests}
-use Rattle.sabr_plan.proofs.SpelledNumbers.{within_none, within, within_yes}
+use Rattle.sabr_plan.proofs.SpelledNumbers.{within, within_yes}
 use Rattle.sabr_plan.proofs.number.number_within.Goals as goal
-
-pub returns-in_err-value-clause-value : goal.returns-in_err-value-clause-value
-returns-in_err-value-clause-value c = c.from_residual.ensures ∙ sym (within_none c.args.low c.args.high c.args.text.now c.ranges.high.fits (sym c.in_err-value.ensures))
 
 pub returns-then-leads_with_zero-clause-value : goal.returns-then-leads_with_zero-clause-value
 returns-then-leads_with_zero-clause-value c = let is = within c.args.low c.args.high c.args.text.now c.ranges.high.fits c.in_ok-value.value (sym c.in_ok-value.ensures) in grind (arith, nat_tests, c.then-leads_with_zero.either)

@@ -1,29 +1,17 @@
 -- One piece after another, to the end of the text or its first bad line.
-use Rattle.std.proofs.Common.{refl, arith}
+use Rattle.std.proofs.Common.{arith}
 use Rattle.std.proofs.lemmas.Result.{err_from_is_err_and}
 use Rattle.sabr_model.proofs.ListLemmas.ReadTexts.{end_told}
-use Rattle.sabr_plan.proofs.TextReading.{nothing_read, piece_read, text_ended}
-use Rattle.sabr_plan.specs.Feeding.{Answers, outcome}
+use Rattle.sabr_plan.proofs.TextReading.{text_ended}
+use Rattle.sabr_plan.specs.Feeding.{Answers}
 use Rattle.sabr_plan.specs.PlanRead.{IsNoMemory, IsRead}
-use Rattle.sabr_plan.specs.Reading.{plan_of}
-use Rattle.sabr_plan.proofs.Held.{at_first, piece_refused, read_failed}
+use Rattle.sabr_plan.proofs.Held.{piece_refused, read_failed}
 use Rattle.sabr_plan.proofs.read.read_plan.Goals as goal
-
-pub loop-feed-init : goal.loop-feed-init
-loop-feed-init g c = record { read = nothing_read plan_of (outcome c.new-feed.result) _ (at_first c.new-feed.result c.new-feed.ensures); fine = refl }
 
 pub returns-in-Ok-eq0-clause-read : goal.returns-in-Ok-eq0-clause-read
 returns-in-Ok-eq0-clause-read g c =
     let h = c.in-Ok-eq0.ensures in
     text_ended Answers IsRead IsNoMemory _ c.loop-feed.invariant.read c.finish.result (rw c.in-Ok-eq0.field-0-test at h.bytes) (end_told _ _ (g.R.Read.input c.read.new.self) h.end h.left c.in-Ok-eq0.field-0-test (omega (arith, c.read.auto.buf))) (omega (arith, h.count, c.loop-feed.invariant.fine)) c.finish.ensures
-
-pub loop-feed-preserved : goal.loop-feed-preserved
-loop-feed-preserved g c =
-    let h = c.in-Ok.ensures in
-    record {
-      read = piece_read (outcome c.feed.new.self) _ _ c.loop-feed.invariant.read h.bytes c.in_ok-feed-in-Ok.ensures.fed;
-      fine = omega (arith, h.count, c.loop-feed.invariant.fine);
-    }
 
 pub returns-in_err-feed-in-Ok-clause-read : goal.returns-in_err-feed-in-Ok-clause-read
 returns-in_err-feed-in-Ok-clause-read g c =

@@ -2,17 +2,12 @@
 use Rattle.std.proofs.Common.{◌≡◌, ℕ, ◌+◌, ◌*◌, ◌/◌, ◌≤◌, refl, sym, ap, ◌∙◌, arith}
 use Rattle.sabr_plan.specs.declared.time.TimeFields.{TimeFields}
 use Rattle.sabr_plan.specs.Times.{day_after_epoch, fields_of}
-use Rattle.sabr_plan.proofs.Spelling.{fields_of-clock, fields_of_injective, day_of, day_of-fields_of, fields_clock}
+use Rattle.sabr_plan.proofs.Spelling.{fields_of-clock, fields_of_injective, day_of, day_of-fields_of}
 use Rattle.sabr_plan.proofs.time.second_of.Goals as goal
 
 pub returns-in_err-days-clause-none : goal.returns-in_err-days-clause-none
 returns-in_err-days-clause-none c i t k e =
     c.in_err-days.ensures.none refl (t / 86400) (omega arith) (sym (day_of-fields_of t) ∙ ap day_of e)
-
-pub returns-then-fields-gt23-clause-none : goal.returns-then-fields-gt23-clause-none
-returns-then-fields-gt23-clause-none c i t k e =
-    let clock = fields_clock t c.args.fields e in
-    omega (arith, clock, c.then-fields-gt23.either)
 
 -- the second of a day's number and a time of day has that day and time as its fields
 shown : (n : ℕ) (f : TimeFields) → day_after_epoch n ≡ day_of f → f.hour ≤ 23 → f.minute ≤ 59 → f.second ≤ 59 → fields_of (n * 86400 + (f.hour * 3600 + f.minute * 60 + f.second)) ≡ f

@@ -1,6 +1,5 @@
 -- The index in the tree is that of the contact that stands, if one does.
 use Rattle.std.proofs.Common.{◌∙◌, sym, arith}
-use Rattle.sabr_plan.proofs.GatheredOpenings.{found_at}
 use Rattle.sabr_plan.proofs.TreedOpenings.{nothing_there, another_there}
 use Rattle.sabr_plan.proofs.gathering.opening_tree.OpeningTree.find.Goals.{else-index-contacts-via-then-index-contacts+else-stands_at, else-index-contacts-via-else-index-contacts}
 use Rattle.sabr_plan.proofs.gathering.opening_tree.OpeningTree.find.Goals as goal
@@ -8,9 +7,6 @@ use Rattle.sabr_plan.proofs.gathering.opening_tree.OpeningTree.find.Goals as goa
 pub returns-in_default-get-clause-found : goal.returns-in_default-get-clause-found
 returns-in_default-get-clause-found g c =
     nothing_there c.args.opening.now _ _ c.args.contacts.now c.add_all.ensures.treed (c.in-Ok.ensures {u = tt}).all (sym (c.in_default-get.ensures {u = tt}).value)
-
-pub returns-then-stands_at-clause-found : goal.returns-then-stands_at-clause-found
-returns-then-stands_at-clause-found g c = (c.if-index-contacts.true, found_at c.args.opening.now c.args.contacts.now c.in-Some.index.now c.if-index-contacts.true (sym c.stands_at.ensures ∙ c.if-stands_at.true))
 
 pub returns-clause-found : goal.returns-clause-found
 returns-clause-found g c =
