@@ -1,10 +1,10 @@
 -- Chains of places by buckets: what one more leaves of them, and what a walk along one shows.
-use Rattle.std.proofs.Common.{◌≡◌, ℕ, ◌-◌, ◌<◌, ◌≤◌, Bool, true, false, List, [], ◌∷◌, ◌++◌, length, get_or, map, refl, sym, ap, subst, ◌∙◌, inl, inr, arith, length-append}
+use Rattle.std.proofs.Common.{◌≡◌, ℕ, ◌-◌, ◌<◌, ◌≤◌, Bool, true, false, List, [], ◌∷◌, ◌++◌, length, get_or, map, refl, sym, ap, subst, ◌∙◌, arith, length-append}
 use Rattle.std.specs.Prelude.{slice_get, Some}
 use Rattle.std.proofs.lemmas.Option.{slice_get-map, slice_get-get_or}
 use Rattle.std.specs.List.{list_any}
 use Rattle.std.proofs.lemmas.Bool.Decides.{nat_tests}
-use Rattle.std.proofs.lemmas.Bool.{cases_eq, cases_lt, false_from_ne_true}
+use Rattle.std.proofs.lemmas.Bool.{false_from_ne_true}
 use Rattle.std.proofs.lemmas.List.{get_or_append_left, get_or-map, map-append}
 use Rattle.std.proofs.lemmas.List.Recursion.{or_from_places}
 use Rattle.sabr_plan.specs.Gathering.{IsLastOf, AreChained}
@@ -83,15 +83,7 @@ module _ {X : Type 0} {f : X → ℕ} {p : X → Bool} {bucket : ℕ} {none : X}
           below = k;
           within = omega (arith, low, within);
           last = subst (λ b. IsLastOf (map f xs) b k (get_or befores k 0)) (h.last.is k (omega (arith, some))) before;
-          fails = λ j ge lt.
-              elim (cases_lt j h.below) [
-                | inr high ↦ h.fails j high lt
-                | inl under ↦
-                    elim (cases_eq j k) [
-                      | inl here ↦ ap (λ m. p (get_or xs m none)) here ∙ fails
-                      | inr other ↦ skipped j lt (h.last.none j (omega (arith, ge, other, some)) under)
-                    ]
-              ];
+          fails = λ j ge lt. grind (arith, h.fails j, skipped j lt, h.last.none j);
           others = h.others;
         },
         omega (arith, less, some),

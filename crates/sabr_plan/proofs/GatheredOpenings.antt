@@ -1,5 +1,5 @@
 -- What no two gathered contacts share, as the chains beside them have it.
-use Rattle.std.proofs.Common.{◌≡◌, ℕ, zero, suc, ◌<◌, Bool, true, false, ◌&&◌, not, List, [], ◌∷◌, ◌++◌, filter, length, get_or, set, refl, sym, ap, subst, ◌∙◌, arith}
+use Rattle.std.proofs.Common.{◌≡◌, ℕ, zero, suc, ◌<◌, Bool, true, false, ◌&&◌, not, List, [], ◌∷◌, ◌++◌, filter, length, get_or, set, refl, sym, ap, ◌∙◌, arith}
 use Rattle.sabr_model.proofs.ListLemmas.Ordered.{all_weaker}
 use Rattle.std.specs.Prelude.{slice_get, option_map, is_some}
 use Rattle.std.specs.List.{list_any, find, position}
@@ -44,7 +44,7 @@ later_opening o last cs all more =
 pub knows_push : (befores lasts : List ℕ) (in_order : Bool) (last o : Opening) (cs : List Contact) → KnowsSome befores lasts in_order last cs → (in_order ≡ true → OpenBy o cs) → (c : Contact) → opening_of c ≡ o → KnowsSome befores lasts in_order o (cs ++ c ∷ [])
 knows_push befores lasts in_order last o cs h by c is = (
   chained_push contact_bucket cs c befores lasts h.0,
-  λ up. all_push (λ d. is_le (by_key (opening_key (opening_of d)) (opening_key o)) ≡ true) cs c (by up) (subst (λ p. is_le (by_key (opening_key p) (opening_key o)) ≡ true) (sym is) (le_itself (opening_key o))),
+  λ up. all_push (λ d. is_le (by_key (opening_key (opening_of d)) (opening_key o)) ≡ true) cs c (by up) (grind (arith, is, le_itself (opening_key o))),
 )
 
 -- ---- contacts that stand
@@ -69,7 +69,7 @@ module _ (o : Opening) (cs : List Contact) where
   found_at k lt passes = ap (option_map (stands_at o)) (slice_get-get_or cs k no_contact lt) ∙ ap Some passes
 
   pub stands_found : (k : ℕ) → k < length cs → option_map (stands_at o) (slice_get cs k) ≡ Some true → stands_at o (get_or cs k no_contact) ≡ true
-  stands_found k lt is = let e : Some (stands_at o (get_or cs k no_contact)) ≡ Some true = sym (ap (option_map (stands_at o)) (slice_get-get_or cs k no_contact lt)) ∙ is in cc
+  stands_found k lt is = grind (arith, slice_get-get_or cs k no_contact lt)
 
   -- one is found if there is one
   pub found_any : (r : Option ℕ) → IsFound o cs r → is_some r ≡ list_any (stands_at o) cs

@@ -91,8 +91,8 @@ module _ {R X F : Type 0} (lines : ℕ → R → List (List ℕ) → Result R F)
     -- a line ends in a piece
     pub text_outcome-line : (n : ℕ) (r : R) (held front rest more : List ℕ) (ended : Bool) → is_one_line held ≡ true → is_one_line front ≡ true → text_outcome n r held ((front ++ 10 ∷ rest) ++ more) ended ≡ and_then (line n r (held ++ front)) (λ r₁. text_outcome (n + 1) r₁ [] (rest ++ more) ended)
     text_outcome-line n r held front rest more ended one_held one =
-        let whole : is_one_line (held ++ front) ≡ true = rw (list_all-append (λ b. not (eqb b 10)) held front, one_held, one) refl in
-        let parts : held ++ ((front ++ 10 ∷ rest) ++ more) ≡ (held ++ front) ++ 10 ∷ (rest ++ more) = rw (append_assoc, append_assoc) refl in
+        let whole : is_one_line (held ++ front) ≡ true = grind (arith, list_all-append (λ b. not (eqb b 10)) held front) in
+        let parts : held ++ ((front ++ 10 ∷ rest) ++ more) ≡ (held ++ front) ++ 10 ∷ (rest ++ more) = simp append_assoc in
         let t = lines_of (rest ++ more) in
         ap (λ t. lines_outcome n r t ended) (ap lines_of parts ∙ lines_of-line (held ++ front) (rest ++ more) whole) ∙ outcome_more n r (held ++ front) t.ended t.open_line ended
 

@@ -1,11 +1,11 @@
 -- The words of a line, and graphic words, each after blanks.
-use Rattle.std.proofs.Common.{◌≡◌, ℕ, ◌-◌, ◌<◌, true, false, List, [], ◌∷◌, ◌++◌, length, take, drop, get_or, refl, sym, ap, ◌∙◌, inl, inr, arith, add-zero, append-nil, Bool, eqb, append_assoc, get_or-take, get_or-drop, length-append, length-take, length-drop, not}
+use Rattle.std.proofs.Common.{◌≡◌, ℕ, ◌-◌, ◌<◌, true, false, List, [], ◌∷◌, ◌++◌, length, take, drop, get_or, refl, sym, ap, ◌∙◌, arith, add-zero, append-nil, Bool, eqb, append_assoc, get_or-take, get_or-drop, length-append, length-take, length-drop, not}
 use Rattle.std.specs.Prelude.{Option, Some, None, unwrap_or}
 use Rattle.std.specs.List.{All, list_all, position, position_or_len}
 use Rattle.std.proofs.lemmas.List.Splits.{slice_split-cons_yes, slice_split_none, slice_split_at}
 use borrow.Author.Tests.{lt-ltb, ltb-true}
 use Rattle.sabr_plan.specs.Words.{is_blank, words_of, is_plain, is_comment, has_bytes, is_one_line}
-use Rattle.std.proofs.lemmas.Bool.{and_parts, both_ways, cases_lt, not-false, not-true}
+use Rattle.std.proofs.lemmas.Bool.{and_parts, not-false, not-true}
 use Rattle.std.proofs.lemmas.Bool.Decides.{nat_tests}
 use Rattle.std.proofs.lemmas.List.Folds.{list_all-append}
 use Rattle.std.proofs.lemmas.List.{drop_all, take-append-drop}
@@ -108,11 +108,7 @@ first_word text start at found is =
     let n = position_or_len is_blank start in
     let long = length-take n start in
     let some : 0 < length start = omega (arith, p.0, ap length is, length-drop at text) in
-    let more : 0 < n =
-    elim (cases_lt 0 n) [
-      | inl lt ↦ lt
-      | inr none ↦ let e : n ≡ 0 = omega arith in absurd (both_ways (is_blank (get_or start 0 0)) first (rw e at (passes_at_first is_blank start 0 (omega (arith, none, some)))))
-    ] in
+    let more : 0 < n = grind (arith, passes_at_first is_blank start 0) in
     rw (first_or_len is_blank start) (sym (words_of-from text (Some at) found) ∙ ap words_of (sym is ∙ sym (take-append-drop n start))
     ∙ first_is (take n start) (drop n start) (omega (arith, more, some, long))
     (λ k d less. let low : k < n = omega (arith, less, long) in rw (get_or-take n start k d low) (fails_before_first is_blank start k d low))

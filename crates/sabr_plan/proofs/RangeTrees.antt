@@ -85,12 +85,6 @@ module _ (one other start : ℕ) where
 
 -- ---- the last that begins before an end
 
-less_by : (x y : Key) → IsBy 1 x y → by_key x y ≡ Less
-less_by x y h = grind (arith, nat_tests)
-
-overlap_from : (r s : Range) → r.one ≡ s.one → r.other ≡ s.other → r.start < s.end → s.start < r.end → overlap r s ≡ true
-overlap_from r s one other a b = grind (arith, nat_tests)
-
 -- between a range that it overlaps and its end it overlaps each
 squeezed : (r x s : Range) → overlap r x ≡ true → IsBy 0 (range_key x) (range_key s) → IsBy 1 (range_key s) (r.one, r.other, r.end) → s.start < s.end → overlap x s ≡ false → overlap r s ≡ true
 squeezed r x s both up low window apart = grind (arith, nat_tests, up.first, up.second, up.third, low.first, low.second, low.third)

@@ -16,7 +16,6 @@ use Rattle.sabr_plan.specs.Digits.{is_digit, are_digits, leads_with_zero}
 use Rattle.std.specs.Str.{bytes_eq}
 use Rattle.std.proofs.lemmas.Fmt.{decimal_is_IsNumeral_wide, decimal_is_IsNumeral, decimal-digits_value, digits_decimal, digits_value-decimal, decimal_digit, first_decimal}
 use Rattle.std.proofs.lemmas.Slice.Eq.{bytes_eq-Decides}
-use Rattle.std.proofs.lemmas.Bool.{le-leb}
 use Rattle.std.specs.declared.option.Option.TheVariants.{Some, None}
 use Rattle.sabr_plan.specs.Numbers.{number_within}
 
@@ -94,7 +93,7 @@ number_within-unspelled top low high text h none =
 pub number_within-spelled_within : (low high : ℕ) (text : List ℕ) (n : ℕ) → n < 10 ^ 64 → text ≡ decimal n → low ≤ n → n ≤ high
     → number_within low high text ≡ Some n
 unfolding number_within
-number_within-spelled_within low high text n h e a b = rw (worth text n h e, same_text text (decimal n) e, le-leb low n a, le-leb n high b) refl
+number_within-spelled_within low high text n h e a b = grind (arith, nat_tests, worth text n h e, same_text text (decimal n) e)
 
 -- a number that was found is within the bounds
 pub number_within-range : (low high : ℕ) (text : List ℕ) (n : ℕ) → number_within low high text ≡ Some n → (low ≤ n) × (n ≤ high)
@@ -110,9 +109,7 @@ small_decimal n h =
 -- it has no leading zero
 decimal_leads : (n : ℕ) → n < 18446744073709551616 → leads_with_zero (decimal n) ≡ false
 decimal_leads zero h = rw (decimal_digit 0 (omega arith)) refl
-decimal_leads (suc n) h =
-    let above : 48 < get_or (decimal (suc n)) 0 0 = first_decimal (suc n) (omega arith) (omega arith) in
-    grind (arith, nat_tests)
+decimal_leads (suc n) h = grind (arith, nat_tests, first_decimal (suc n) (omega arith) (omega arith))
 
 -- digits that stand for less than 2^64
 small_parts : (text : List ℕ) (v : ℕ) → small_value text ≡ Some v → (0 < length text) × (list_all is_digit text ≡ true) × (digits_value 10 text ≡ v) × (v < 18446744073709551616)
@@ -136,14 +133,11 @@ module _ (low high : ℕ) (text : List ℕ) (h : high < 18446744073709551616) wh
     pub within : number_within low high text ≡ cond (not (leads_with_zero text) && leb low v && leb v high) (Some v) None
     unfolding number_within
     within =
-        (elim (leads_with_zero text) as (λ b. leads_with_zero text ≡ b → number_within low high text ≡ cond (not b && leb low v && leb v high) (Some v) None) [
-          | true ↦ λ zero. number_within-unspelled 18446744073709551616 low high text h
-              (λ n small is. let none : leads_with_zero text ≡ false = ap leads_with_zero is ∙ decimal_leads n small in absurd cc)
-          | false ↦ λ plain.
-              let spells = digits_spell text v e plain in
-              let short = let p = small_parts text v e in short128 v (omega arith) in
-              rw (worth text v short spells, same_text text (decimal v) spells) refl
-        ]) refl
+        let spells : leads_with_zero text ≡ false → text ≡ decimal v = digits_spell text v e in
+        let p = small_parts text v e in
+        let value : digits_value 10 text ≡ v = p.2 in
+        let lead = decimal_leads v p.3 in
+        grind (arith, nat_tests, spells, value, bytes_eq-Decides text (decimal v), lead)
 
     pub within_yes : leads_with_zero text ≡ false → low ≤ v → v ≤ high → number_within low high text ≡ Some v
     within_yes plain a b = grind (arith, nat_tests, within)

@@ -1,11 +1,10 @@
 -- Times as texts: the spelling of calendar and clock in 19 bytes, seconds and their fields, and days that are known.
-use Rattle.std.proofs.Common.{◌≡◌, ℕ, ◌+◌, ◌-◌, ◌*◌, ◌/◌, ◌%◌, ◌<◌, true, ◌&&◌, List, length, get_or, refl, arith, ◌≤◌, sym, ap, ◌∙◌, subst, pos, unsigned_abs, Option, Some, None, IfSome, false, eqb, [], ◌∷◌, ◌++◌, take, drop, append_assoc, Ok, ok_or}
+use Rattle.std.proofs.Common.{◌≡◌, ℕ, ◌+◌, ◌-◌, ◌*◌, ◌/◌, ◌%◌, ◌<◌, true, List, length, get_or, refl, arith, ◌≤◌, sym, ap, ◌∙◌, subst, pos, unsigned_abs, Option, Some, None, IfSome, false, eqb, [], ◌∷◌, ◌++◌, take, drop, append_assoc, Ok, ok_or}
 use Rattle.std.proofs.lemmas.Bool.{and_parts, ne_eqb}
 use Rattle.std.proofs.lemmas.Bool.Decides.{nat_tests}
 use Rattle.std.proofs.lemmas.Slice.Eq.{text_from_reads, bytes_eq-Decides}
 use borrow.Author.Tests.{eqb-true, le-leb}
 use Rattle.sabr_plan.specs.declared.time.TimeFields.{TimeFields}
-use Rattle.sabr_plan.specs.Digits.{is_digit}
 use Rattle.sabr_plan.specs.Times.{pair_at, spelled, CalendarDay, day_after_epoch, fields_of, last_spelled, time_text_of, second_named, time_of, is_pair, has_shape, fields_at, HasWidth, IsDate}
 use Rattle.std.specs.Str.{bytes_eq}
 use Rattle.jiff_core.specs.Calendar.{days_from_civil}
@@ -87,15 +86,9 @@ fields_at_spelled word h =
     text_from_reads word (spelled (fields_at word)) p.long
     (rw high c.0, (rw high c.1, (rw low y.0, (rw low y.1, (p.first, (m.0, (m.1, (p.second, (d.0, (d.1, (p.third, (hour.0, (hour.1, (p.fourth, (minute.0, (minute.1, (p.fifth, (s.0, (s.1, tt)))))))))))))))))))
 
-two_is_pair : (n : ℕ) → n < 100 → (is_digit (48 + n / 10) && is_digit (48 + n % 10)) ≡ true
-two_is_pair n h = grind (arith, nat_tests)
-
 -- a spelling has the shape
 pub spelled_has_shape : (f : TimeFields) → HasWidth f → has_shape (spelled f) ≡ true
-spelled_has_shape f w =
-    let century = two_is_pair (f.year / 100) (omega (arith, w.year)) in
-    let year = two_is_pair (f.year % 100) (omega arith) in
-    rw (century, year, two_is_pair f.month w.month, two_is_pair f.day w.day, two_is_pair f.hour w.hour, two_is_pair f.minute w.minute, two_is_pair f.second w.second) refl
+spelled_has_shape f w = grind (arith, nat_tests)
 
 two_value : (n : ℕ) → (48 + n / 10 - 48) * 10 + (48 + n % 10 - 48) ≡ n
 two_value n = omega arith
