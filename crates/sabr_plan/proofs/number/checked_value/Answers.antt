@@ -1,12 +1,7 @@
 -- Digits, few enough to be small, spell what they stand for.
-use Rattle.std.proofs.Common.{◌≡◌, ℕ, ◌<◌, List, [], ◌∷◌, length, Some, sym, ap, ◌∙◌, arith}
-use Rattle.std.specs.Str.Parse.{digits_value}
+use Rattle.std.proofs.Common.{Some, sym, ap, ◌∙◌}
 use Rattle.sabr_plan.proofs.SpelledNumbers.{small_digits, within_yes}
 use Rattle.sabr_plan.proofs.number.checked_value.Goals as goal
-
-some : (word : List ℕ) (value : ℕ) → value ≡ digits_value 10 word → 0 < value → 0 < length word
-some [] value e h = absurd (omega arith)
-some (b ∷ word) value e h = omega arith
 
 pub returns-clause-value : goal.returns-clause-value
 returns-clause-value c =
