@@ -2,7 +2,7 @@
 
 ghost use Rattle.std.specs.Prelude.{◌≡◌};
 ghost use Rattle.sabr_plan.specs.Words.{words_of};
-ghost use Rattle.sabr_plan.specs.Commands.{line_command, command_of, reference_of, target_of, targeted, addition_of, deletion_of};
+ghost use Rattle.sabr_plan.specs.Commands.{line_command, command_of, target_of, addition_of, deletion_of};
 
 use crate::fault::PlanKind;
 use crate::operand::{Reference, absolute_time, both_of, node_of, time_at, value_of};
@@ -72,24 +72,23 @@ fn command_of(reference: &Reference, line: &[u8]) -> Result<Command, PlanKind>
         return Ok(Command::Nothing);
     };
     if is_word(word, b"@") {
-        reference_of(rest)
-    } else if is_word(word, b"a") {
-        add_command(reference, rest)
-    } else if is_word(word, b"d") {
-        delete_command(reference, rest)
-    } else {
-        Err(PlanKind::UnknownCommand)
+        let Some(time) = one_word(rest) else {
+            return Err(PlanKind::WrongOperands);
+        };
+        return Ok(Command::SetReference(absolute_time(time)?));
     }
-}
-
-/// Reads the absolute time after `@`.
-fn reference_of(text: &[u8]) -> Result<Command, PlanKind>
-    ensures { result ≡ reference_of (words_of text.now) }
-{
-    let Some(word) = one_word(text) else {
-        return Err(PlanKind::WrongOperands);
+    let adds = is_word(word, b"a");
+    if !adds && !is_word(word, b"d") {
+        return Err(PlanKind::UnknownCommand);
+    }
+    let Some((name, operands)) = next_word(rest) else {
+        return Err(PlanKind::UnknownCommand);
     };
-    Ok(Command::SetReference(absolute_time(word)?))
+    match target_of(name) {
+        Some(target) if adds => addition_of(reference, target, operands),
+        Some(target) => deletion_of(reference, target, operands),
+        None => Err(PlanKind::UnknownCommand),
+    }
 }
 
 /// Returns the kind of record that the word after `a` or `d` names.
@@ -102,32 +101,6 @@ fn target_of(word: &[u8]) -> Option<Target>
         Some(Target::Range)
     } else {
         None
-    }
-}
-
-/// Reads the rest of a line after `a`.
-fn add_command(reference: &Reference, text: &[u8]) -> Result<Command, PlanKind>
-    ensures { result ≡ targeted (addition_of reference.now) (words_of text.now) }
-{
-    let Some((word, operands)) = next_word(text) else {
-        return Err(PlanKind::UnknownCommand);
-    };
-    match target_of(word) {
-        Some(target) => addition_of(reference, target, operands),
-        None => Err(PlanKind::UnknownCommand),
-    }
-}
-
-/// Reads the rest of a line after `d`.
-fn delete_command(reference: &Reference, text: &[u8]) -> Result<Command, PlanKind>
-    ensures { result ≡ targeted (deletion_of reference.now) (words_of text.now) }
-{
-    let Some((word, operands)) = next_word(text) else {
-        return Err(PlanKind::UnknownCommand);
-    };
-    match target_of(word) {
-        Some(target) => deletion_of(reference, target, operands),
-        None => Err(PlanKind::UnknownCommand),
     }
 }
 
