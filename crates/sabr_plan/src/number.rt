@@ -11,14 +11,6 @@ use crate::eight_digits::{count_any_digits, count_digits};
 /// The largest number of 32 bits, the type of contact numbers, of margins in parts a million, and of limits on hops.
 pub const MAX_U32: u64 = u32::MAX as u64;
 
-/// Appends a digit to a number, if the result is below 2^64.
-fn push_digit(value: u64, byte: u8) -> Option<u64>
-    requires { IsTrue (is_digit byte) }
-    ensures { SomeIff result (value * 10 + (byte - 48) < 18446744073709551616) (value * 10 + (byte - 48)) }
-{
-    value.checked_mul(10)?.checked_add((byte - b'0') as u64)
-}
-
 /// Returns the value of a word of digits. `None` for an empty word, another byte, or a value of 2^64 or more.
 #[tactic(auto, using(crate::proofs::SpelledNumbers::take_digit, crate::proofs::SpelledNumbers::take_digits, crate::proofs::SpelledNumbers::small_value_over))]
 pub fn digits_value(word: &[u8]) -> Option<u64>
@@ -32,7 +24,7 @@ pub fn digits_value(word: &[u8]) -> Option<u64>
         if !byte.is_ascii_digit() {
             return None;
         }
-        value = push_digit(value, *byte)?;
+        value = value.checked_mul(10)?.checked_add((byte - b'0') as u64)?;
     }
     Some(value)
 }
