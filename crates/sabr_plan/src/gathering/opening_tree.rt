@@ -58,28 +58,16 @@ impl<A: Allocator + Copy> OpeningTree<A> {
         ensures all { OnOk result (self.new.treed ≡ length contacts.now) }
     {
         while self.treed < contacts.len() {
-            self.add_next(contacts)?;
+            let index = self.treed;
+            let contact = contacts[index];
+            if contact.start < contact.end {
+                let opening = (contact.from, contact.to, contact.start);
+                let Ok(_) = self.indexes.insert(opening, index) else {
+                    return Err(AllocError);
+                };
+            }
+            self.treed = index + 1;
         }
-        Ok(())
-    }
-
-    /// Adds the next contact, if it stands.
-    fn add_next(&mut self, contacts: &[Contact]) -> Result<(), AllocError>
-        requires more { self.old.treed < length contacts.now }
-        requires treed { IsTreed self.old.indexes self.old.treed contacts.now }
-        requires apart { IsTrue (none_twice same_opening (standing contacts.now)) }
-        ensures treed { IsTreed self.new.indexes self.new.treed contacts.now }
-        ensures next { OnOk result (self.new.treed ≡ self.old.treed + 1) }
-    {
-        let index = self.treed;
-        let contact = contacts[index];
-        if contact.start < contact.end {
-            let opening = (contact.from, contact.to, contact.start);
-            let Ok(_) = self.indexes.insert(opening, index) else {
-                return Err(AllocError);
-            };
-        }
-        self.treed = index + 1;
         Ok(())
     }
 
