@@ -173,13 +173,15 @@ module _ (m n : BTreeMap Key Range) (h : IsRangeTree m) where
   tree_stays is = (tree_of n rs (is ∙ h.0) h.1).0
 
   -- one more
-  pub tree_more : (r : Range) → IsNode r.one → IsNode r.other → r.end ≤ last_time → r.light ≤ 1000000 → range_refusal (plan_of_ranges rs) r ≡ None → n.entries ≡ insert_entry by_key m.entries (range_key r) r
-      → IsRangeTree n × (values n ≡ put_in by_range_key r rs) × (length (values n) ≡ length rs + 1)
-  tree_more r one other ends light accept is =
-      let a = accepted_range (plan_of_ranges rs) r accept in
-      let ties = no_tie r rs a.window h.1.range_windows a.new in
-      let made = tree_of n (put_in by_range_key r rs) (is ∙ ap (λ es. insert_entry by_key es (range_key r) r) h.0 ∙ insert_keyed r rs ties) (IsPlan-range (plan_of_ranges rs) r h.1 one other ends light accept) in
-      let longer = length_permutation (r ∷ rs) (put_in by_range_key r rs) (moved_by_put r rs ties) in
+  pub tree_more : (r : Range) (ys : List Range) → rs ≡ ys → IsNode r.one → IsNode r.other → r.end ≤ last_time → r.light ≤ 1000000 → range_refusal (plan_of_ranges ys) r ≡ None
+      → (key : Key) → key ≡ range_key r → n.entries ≡ insert_entry by_key m.entries key r → IsRangeTree n × (values n ≡ put_in by_range_key r ys) × (length (values n) ≡ length ys + 1)
+  tree_more r ys same one other ends light accept key at is =
+      let plan = subst (λ xs. IsPlan (plan_of_ranges xs)) same h.1 in
+      let a = accepted_range (plan_of_ranges ys) r accept in
+      let ties = no_tie r ys a.window plan.range_windows a.new in
+      let entries = is ∙ ap (λ k. insert_entry by_key m.entries k r) at ∙ ap (λ es. insert_entry by_key es (range_key r) r) (h.0 ∙ ap (map keyed) same) ∙ insert_keyed r ys ties in
+      let made = tree_of n (put_in by_range_key r ys) entries (IsPlan-range (plan_of_ranges ys) r plan one other ends light accept) in
+      let longer = length_permutation (r ∷ ys) (put_in by_range_key r ys) (moved_by_put r ys ties) in
       (made.0, made.1, omega (arith, ap length made.1, longer))
 
   -- one less

@@ -18,6 +18,7 @@ fn first_place(text: &[u8], separator: u8) -> Option<usize>
 
 /// Returns the first piece of a text, up to the first byte of this value, and the text after that byte. Without such a
 /// byte the piece is the whole text, and there is nothing after it. Its time grows with the piece's length.
+#[tactic(auto, using(crate::proofs::TextPieces::pieces_at, crate::proofs::TextPieces::pieces_one, std::proofs::lemmas::List::take_rest))]
 #[inline]
 pub fn first_piece(text: &[u8], separator: u8) -> (&[u8], Option<&[u8]>)
     ensures pieces { pieces_of separator text.now ≡ result.0.now ∷ pieces_after separator (option_copied result.1) }

@@ -66,7 +66,10 @@ impl<A: Allocator + Copy> DuplicateCheck<A> {
         ensures treed { IsTreed self.new.tree.indexes self.new.tree.treed contacts.now }
         ensures rises { IsTrue self.new.in_order → OpenBy opening contacts.now }
     {
-        if self.in_order && comes_after(&opening, &self.last) {
+        let last = self.last;
+        if self.in_order
+            && (opening.start, opening.from, opening.to) > (last.start, last.from, last.to)
+        {
             return false;
         }
         self.in_order = false;
@@ -111,13 +114,6 @@ pub fn stands_at(contact: &Contact, opening: &Opening) -> bool
     ensures { result ≡ stands_at opening.now contact.now }
 {
     contact.opens(opening.from, opening.to, opening.start) && contact.start < contact.end
-}
-
-/// Returns true if an opening comes after another, by start, sender and receiver.
-fn comes_after(opening: &Opening, other: &Opening) -> bool
-    ensures { result ≡ is_gt (by_key (opening_key opening.now) (opening_key other.now)) }
-{
-    (opening.start, opening.from, opening.to) > (other.start, other.from, other.to)
 }
 
 /// The bucket of an opening.

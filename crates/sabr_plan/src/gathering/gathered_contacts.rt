@@ -1,8 +1,7 @@
 //! Contacts that are gathered one by one, for a plan that is made of all at once.
 
 ghost use Rattle.std.specs.Prelude.{◌≡◌, ◌<◌, ◌≤◌, ◌+◌, [], None, Some, Err, IfOk, OnOk, OnErr, IsOkUnless, ok_or, unwrap_or};
-ghost use Rattle.std.specs.List.{list_any};
-ghost use Rattle.sabr_model.specs.plan.Plan.{last_time, opens, IsPlan};
+ghost use Rattle.sabr_model.specs.plan.Plan.{last_time, IsPlan};
 ghost use Rattle.sabr_model.specs.declared.fault.AddFault.{AddFault};
 ghost use Rattle.sabr_model.specs.declared.fault.AddFault.TheVariants.{NoMemory, NothingToDelete};
 ghost use Rattle.sabr_model.specs.plan.Adding.{next_contact, contact_refusal, with_contact, number_of_opening, without_contact};
@@ -102,17 +101,11 @@ impl<A: Allocator + Copy> GatheredContacts<A> {
     fn fault(&self, from: u64, to: u64, start: u64, end: u64) -> AddFault
         ensures { result ≡ unwrap_or (contact_refusal self.now from to start end) NoMemory }
     {
-        let clashes = self.has_opening(from, to, start);
-        let refusal = Opening { from, to, start }.refusal(end, clashes, self.largest);
-        refusal.unwrap_or(AddFault::NoMemory)
-    }
-
-    /// Returns true if one of the contacts has this sender, receiver and start.
-    fn has_opening(&self, from: u64, to: u64, start: u64) -> bool
-        ensures { result ≡ list_any (opens from to start) self.now.contacts }
-    {
         let opening = Opening { from, to, start };
-        find_by_pass(&self.contacts, &opening).is_some()
+        let clashes = find_by_pass(&self.contacts, &opening).is_some();
+        opening
+            .refusal(end, clashes, self.largest)
+            .unwrap_or(AddFault::NoMemory)
     }
 
     /// Deletes the contact with this sender, receiver and start, and returns its number, which is never assigned again.

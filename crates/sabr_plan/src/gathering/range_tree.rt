@@ -36,6 +36,7 @@ impl<A: Allocator + Copy> Model for RangeTree<A> {
 
 impl<A: Allocator + Copy> RangeTree<A> {
     /// Adds a range, as `Plan::add_range` does, in O(log n): with the same errors.
+    #[tactic(auto, using(crate::proofs::RangeTrees::tree_stays))]
     pub fn add(&mut self, range: Range) -> Result<(), AddFault>
         requires one { 0 < range.one }
         requires other { 0 < range.other }
@@ -54,10 +55,10 @@ impl<A: Allocator + Copy> RangeTree<A> {
         if let Some(fault) = self.refusal(&range) {
             return Err(fault);
         }
-        match self.ranges.insert(range.key(), range) {
-            Ok(_) => Ok(()),
-            Err(_) => Err(AddFault::NoMemory),
-        }
+        let Ok(_) = self.ranges.insert(range.key(), range) else {
+            return Err(AddFault::NoMemory);
+        };
+        Ok(())
     }
 
     /// Returns the first reason to refuse a range, or `None`, in O(log n).
