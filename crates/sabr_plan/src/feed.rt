@@ -1,6 +1,6 @@
 //! A plan text that is read chunk by chunk. One line at a time is held, in a fixed array.
 
-ghost use Rattle.std.specs.Prelude.{◌≡◌, ◌≢◌, ◌+◌, ◌-◌, ◌*◌, ◌≤◌, ◌<◌, [], ◌∷◌, ◌++◌, ◌⊎◌, Ok, Err, OnOk, IfOk, IfErr, IsTrue, IsFalse, length, take, slice_index, MatchOption, MatchResult, false, true};
+ghost use Rattle.std.specs.Prelude.{◌≡◌, ◌≢◌, ◌+◌, ◌-◌, ◌*◌, ◌≤◌, ◌<◌, [], ◌∷◌, ◌++◌, ◌⊎◌, Ok, Err, OnOk, IfErr, IsTrue, IsFalse, length, slice_index, MatchResult, false, true};
 ghost use Rattle.sabr_plan.specs.Words.{is_one_line};
 ghost use Rattle.sabr_plan.specs.Commands.{line_command};
 ghost use Rattle.sabr_plan.specs.declared.fault.PlanKind.TheVariants as kind;

@@ -1,6 +1,6 @@
 //! The plan that the lines of a text build, one after another.
 
-ghost use Rattle.std.specs.Prelude.{◌≡◌, None, [], Ok, Err, IsOk, IfOk, MatchResult, IfSome, IsFalse};
+ghost use Rattle.std.specs.Prelude.{◌≡◌, Ok, Err, IsOk, IfOk, MatchResult, IfSome, IsFalse};
 ghost use Rattle.sabr_plan.specs.Commands.{line_command, HasBounds};
 ghost use Rattle.sabr_plan.specs.PlainWords.{BeginsWithLine};
 ghost use Rattle.sabr_plan.specs.Reading.{kind_of, Leaves};

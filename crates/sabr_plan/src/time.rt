@@ -1,6 +1,6 @@
 //! Absolute times as text: `yyyy/mm/dd-hh:mm:ss`, UTC without leap seconds.
 
-ghost use Rattle.std.specs.Prelude.{◌≡◌, ℕ, ◌<◌, ◌≤◌, ◌+◌, ◌≢◌, Some, IfSome, IsNone, IsTrue, length, slice_index};
+ghost use Rattle.std.specs.Prelude.{◌≡◌, ℕ, ◌<◌, ◌≤◌, ◌+◌, ◌≢◌, Some, IfSome, IsNone, IsTrue, length};
 ghost use Rattle.sabr_model.specs.plan.Plan.{last_time};
 ghost use Rattle.sabr_plan.specs.Times.{day_after_epoch, pair_at, spelled, fields_of, last_spelled, time_text_of, time_of};
 ghost use Rattle.sabr_plan.specs.Times.{is_pair, has_shape, fields_at, HasWidth};

@@ -3,9 +3,7 @@
 
 ghost use Rattle.std.specs.Prelude.{◌≡◌, ◌<◌, ◌≤◌, [], IsTrue, length, map};
 ghost use Rattle.std.specs.List.{list_any, position};
-ghost use Rattle.std.specs.Ordering.{is_gt};
-ghost use Rattle.sabr_model.specs.Order.{by_key};
-ghost use Rattle.sabr_plan.specs.Gathering.{AreChained, opening_key, opening_bucket, opening_buckets, contact_bucket, stands_at, OpenBy, KnowsSome, IsFound, IsTreed, standing};
+ghost use Rattle.sabr_plan.specs.Gathering.{AreChained, opening_bucket, opening_buckets, contact_bucket, stands_at, OpenBy, KnowsSome, IsFound, IsTreed, standing};
 ghost use Rattle.sabr_model.specs.plan.Plan.{same_opening, none_twice};
 
 use crate::gathering::chains::Chains;

@@ -71,8 +71,8 @@ impl<A: Allocator + Copy> OpeningTree<A> {
         Ok(())
     }
 
-    /// Returns the index of the contact that stands and has this opening, or `None`. It is a pass over the contacts if an
-    /// allocation for the tree fails.
+    /// Returns the index of the contact that stands and has this opening, or `None`. It is a pass over the contacts if
+    /// an allocation for the tree fails.
     #[tactic(auto, using(crate::proofs::GatheredOpenings::by_pass, crate::proofs::GatheredOpenings::found_at))]
     #[cold]
     #[inline(never)]
