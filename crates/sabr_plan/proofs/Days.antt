@@ -1,5 +1,5 @@
 -- The days of the calendar, one after another, and their numbers.
-use Rattle.std.proofs.Common.{◌≡◌, ℕ, zero, suc, ◌+◌, ◌<◌, ◌≤◌, inl, inr, sym, ap, ◌∙◌, arith, rules, pos, ◌-◌, ◌+ℤ◌, ◌≢◌, ℤ, subst, w16, w8, to_z, of_z}
+use Rattle.std.proofs.Common.{◌≡◌, ℕ, zero, suc, ◌+◌, ◌<◌, ◌≤◌, inl, inr, sym, ap, ◌∙◌, arith, rules, pos, ◌-◌, ◌+ℤ◌, ◌≢◌, subst, w16, w8, to_z, of_z}
 use Rattle.std.specs.Prelude.{Option, Some, None, IfSome, IsNone, SomeIff}
 use Rattle.std.proofs.lemmas.Bool.{cases_lt}
 use borrow.Author.Tests.{lt-ltb, le-ltb}

@@ -19,7 +19,6 @@ use Rattle.sabr_plan.specs.PlanRead.{IsNoMemory, IsRead, ReadsPlan}
 use Rattle.sabr_plan.proofs.TextReading as reading
 use Rattle.sabr_plan.proofs.SpelledPlans.{ended_not_read}
 use Rattle.sabr_plan.specs.declared.fault.PlanKind.TheVariants as kind
-use Rattle.sabr_model.specs.declared.fault.AddFault.TheVariants as add
 
 pub one_line-append : (a b : List ℕ) → is_one_line a ≡ true → is_one_line b ≡ true → is_one_line (a ++ b) ≡ true
 one_line-append a b h k = grind (arith, list_all-append (λ x. not (eqb x 10)) a b)
