@@ -1,7 +1,7 @@
 //! The links of a plan.
 
 ghost use Rattle.std.specs.Prelude.{◌<◌, ◌^◌, IfOk, length};
-ghost use Rattle.sabr_model.specs.plan.ContactEnds.{AreEnds};
+ghost use Rattle.sabr_model.specs.plan.Known.{AreEnds};
 ghost use Rattle.sabr_model.specs.plan.Tabled.{IsTabled};
 ghost use Rattle.sabr_index.specs.Index.{AreLinksOfPlan};
 
@@ -9,7 +9,7 @@ use crate::building::link_nodes;
 use crate::incoming::{IncomingLinks, incoming_links};
 use crate::order::order_of_contacts;
 use crate::table::LinkTable;
-use sabr_model::{Ends, NoMemory, Plan};
+use sabr_model::{Known, NoMemory, Plan};
 use std::alloc::{Allocator, Global};
 
 /// The links of a plan. The owner of a plan can store them beside it, and lend them to each index of it, as long as the
@@ -45,11 +45,11 @@ impl<A: Allocator + Copy> PlanLinks<A> {
         ensures { IfOk result (AreLinksOfPlan plan.now) }
     {
         plan.nodes();
-        PlanLinks::with_ends(alloc, plan, plan.ends())
+        PlanLinks::with_ends(alloc, plan, plan.known())
     }
 
     /// Makes the links of a plan whose contacts have these ends.
-    fn with_ends(alloc: A, plan: &Plan<A>, ends: &[Ends]) -> Result<PlanLinks<A>, NoMemory>
+    fn with_ends(alloc: A, plan: &Plan<A>, ends: &[Known]) -> Result<PlanLinks<A>, NoMemory>
         requires tabled { IsTabled plan.now }
         requires few { length plan.now.table < 2 ^ 16 }
         requires ends { AreEnds plan.now.table plan.now.plan.contacts ends.now }

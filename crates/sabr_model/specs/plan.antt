@@ -3,7 +3,6 @@ pub mod Plan
 pub mod Table
 pub mod Tabled
 pub mod Known
-pub mod ContactEnds
 pub mod Adding
 pub mod Openings
 pub mod Light

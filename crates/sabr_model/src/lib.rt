@@ -73,7 +73,7 @@ pub use limits::{LAST_TIME, MAX_AVOIDED, MAX_HOPS, MAX_LIGHT, MAX_MARGIN, MAX_RE
 pub use node_list::NodeList;
 pub use numbers::Numbers;
 pub use opening::Opening;
-pub use plan::{Ends, Plan, arrive};
+pub use plan::{Known, Plan, arrive};
 pub use request::Request;
 pub use request_values::RequestValues;
 pub use route::Route;

@@ -1,15 +1,17 @@
 //! The table of nodes: for each node, the numbers of the contacts that it sends.
 
-ghost use Rattle.std.specs.Prelude.{◌≡◌, ℕ, ◌==◌, ◌<◌, ◌≤◌, ◌+◌, ◌∷◌, ◌++◌, Some, None, is_some, IsTrue, map, find, not, ◌&&◌, ◌||◌, filter, nat_eq, slice_get, IfOk, OnOk, OnErr, IsOk, length, if◌then◌else◌};
+ghost use Rattle.std.specs.Prelude.{◌≡◌, ℕ, ◌==◌, ◌<◌, ◌≤◌, ◌+◌, ◌∷◌, ◌++◌, true, Some, None, is_some, IsTrue, map, find, not, ◌&&◌, ◌||◌, filter, nat_eq, slice_get, IfOk, OnOk, OnErr, IsOk, length, if◌then◌else◌};
 ghost use Rattle.std.specs.Option.{option_map};
 ghost use Rattle.indexmap.specs.IndexMap.{IsUnique, get, keys, spare};
-ghost use Rattle.std.specs.List.{list_any};
-ghost use Rattle.sabr_model.specs.plan.Plan.{rises_above, most_records};
+ghost use Rattle.std.specs.List.{list_any, AllByRecursion};
+ghost use Rattle.sabr_model.specs.plan.Plan.{rises_above, most_records, most_light};
 ghost use Rattle.sabr_model.specs.plan.Table.{without_number, list_at, with_number, with_node, with_ends, KeepsPlaces, IsTableOf};
-ghost use Rattle.sabr_model.specs.plan.ContactEnds.{AreEndsOf, AreEnds};
+ghost use Rattle.sabr_model.specs.plan.Known.{AreKnown};
+ghost use Rattle.sabr_model.specs.plan.RangeOrder.{IsRangeList};
 
-use crate::contact::Contact;
-use crate::plan::ends::Ends;
+use crate::contact::{Contact, Range};
+use crate::plan::guessed_lights::{all_hold_both_ways, guesses_of, light_of_contact_guessed};
+use crate::plan::known::Known;
 use indexmap::IndexMap;
 use std::alloc::{AllocError, Allocator};
 use std::hash::{BuildHasherDefault, FoldHasher};
@@ -135,7 +137,8 @@ pub fn note_contact<A: Allocator + Copy>(
 
     // Both nodes are there, and the sender has the number.
     ensures ok { OnOk result ((q : ℕ) → list_at table.new q ≡ with_ends (list_at table.old q) (q == contact.now.from) (q == contact.now.to) contact.now.number) }
-    ensures ends { IfOk result (λ e. AreEndsOf (keys table.new) contact.now (record { from = e.0; to = e.1 })) }
+    ensures from { IfOk result (λ e. slice_get (keys table.new) e.0 ≡ Some contact.now.from) }
+    ensures to { IfOk result (λ e. slice_get (keys table.new) e.1 ≡ Some contact.now.to) }
     ensures places { OnOk result (KeepsPlaces (keys table.old) (keys table.new)) }
 
     // An error changes no list and no node.
@@ -153,46 +156,58 @@ pub fn note_contact<A: Allocator + Copy>(
     Ok((from, to))
 }
 
-/// Makes the table of the nodes of contacts in order of number, and the ends of each contact.
+/// Makes the table of the nodes of contacts in order of number, and what is known of each contact over these ranges.
 pub fn table_of<A: Allocator + Copy>(
     alloc: A,
     contacts: &[Contact],
-) -> Result<(NodeTable<A>, Vec<Ends, A>), AllocError>
-    requires { length contacts.now ≤ most_records }
+    ranges: &[Range],
+) -> Result<(NodeTable<A>, Vec<Known, A>), AllocError>
+    requires few { length contacts.now ≤ most_records }
+    requires ranges { IsRangeList ranges.now }
+    requires limit { AllByRecursion (λ r. r.light ≤ most_light) ranges.now }
     ensures table { IfOk result (λ t. IsTableOf contacts.now t.0) }
-    ensures ends { IfOk result (λ t. AreEnds (keys t.0) contacts.now t.1.items) }
+    ensures known { IfOk result (λ t. AreKnown (keys t.0) ranges.now true contacts.now t.1.items) }
 {
     let mut table = IndexMap::new(alloc);
-    let mut ends = Vec::new(alloc);
-    ends.reserve(contacts.len())?;
+    let mut known = Vec::new(alloc);
+    known.reserve(contacts.len())?;
     let mut guesses = Vec::new(alloc);
     guesses.resize(GUESSES, 0)?;
+    let both_ways = all_hold_both_ways(ranges);
+    let mut range_guesses = guesses_of(alloc, ranges)?;
     for contact in contacts {
-        let guess = (
-            guess_of(&guesses, contact.from),
-            guess_of(&guesses, contact.to),
+        let slots = (
+            contact.from as usize % GUESSES,
+            contact.to as usize % GUESSES,
         );
+        let guess = (guess_at(&guesses, slots.0), guess_at(&guesses, slots.1));
         let found = note_contact(alloc, &mut table, contact, guess)?;
-        note_guess(&mut guesses, contact.from, guess.0, found.0);
-        note_guess(&mut guesses, contact.to, guess.1, found.1);
-        ends.push_reserved(Ends::of(found.0, found.1));
+        if found.0 != guess.0 {
+            note_guess(&mut guesses, slots.0, found.0);
+        }
+        if found.1 != guess.1 {
+            note_guess(&mut guesses, slots.1, found.1);
+        }
+        let light = light_of_contact_guessed(ranges, contact, both_ways, &mut range_guesses);
+        known.push_reserved(Known::of(found.0, found.1, light));
     }
-    Ok((table, ends))
+    Ok((table, known))
 }
 
-/// Returns a guess of the index of a node in the table.
-fn guess_of(guesses: &[u16], node: u64) -> usize {
-    match guesses.get(node as usize % GUESSES) {
+/// Returns the guess in a slot.
+#[inline(always)]
+pub fn guess_at(guesses: &[u16], slot: usize) -> usize {
+    match guesses.get(slot) {
         Some(guess) => *guess as usize,
         None => 0,
     }
 }
 
-/// Notes the index of a node as the guess for it, unless that was the guess.
-fn note_guess(guesses: &mut [u16], node: u64, guess: usize, index: usize) {
-    let place = node as usize % GUESSES;
-    if guess != index && place < guesses.len() {
-        guesses[place] = index.min(u16::MAX as usize) as u16;
+/// Notes an index in a slot, as a guess.
+#[inline(always)]
+pub fn note_guess(guesses: &mut [u16], slot: usize, index: usize) {
+    if slot < guesses.len() {
+        guesses[slot] = index.min(u16::MAX as usize) as u16;
     }
 }
 

@@ -5,9 +5,8 @@ mod add_range;
 mod contact_light;
 mod contacts_by_number;
 mod delete;
-pub mod ends;
-mod guessed_lights;
-mod light_times;
+pub mod guessed_lights;
+pub mod known;
 mod nodes;
 mod openings;
 mod ranges;
@@ -22,10 +21,8 @@ use crate::fault::NoMemory;
 use crate::node_table::{NodeTable, table_of};
 pub use contact_light::arrive;
 use contacts_by_number::contact_of_number;
-pub use ends::Ends;
-use guessed_lights::lights_of;
 use indexmap::IndexMap;
-use light_times::LightTimes;
+pub use known::Known;
 use openings::Openings;
 use std::alloc::{Allocator, Global};
 use std::marker::Model;
@@ -46,10 +43,10 @@ pub struct Plan<A: Allocator + Copy = Global> {
     table: NodeTable<A>,
     /// The largest number ever assigned.
     largest: u32,
-    /// The indexes of the nodes of each contact.
-    ends: Vec<Ends, A>,
-    /// The light times of the first contacts.
-    lights: LightTimes<A>,
+    /// The indexes of each contact's nodes, and its light time.
+    known: Vec<Known, A>,
+    /// Whether those light times are right: no range has changed since.
+    lit: bool,
     /// The contacts by sender, receiver and start, from the first that is added by a call on.
     openings: Openings<A>,
 }
@@ -58,14 +55,14 @@ impl<A: Allocator + Copy> Model for Plan<A> {
     ghost use Rattle.indexmap.specs.IndexMap.{keys};
     ghost use Rattle.sabr_model.specs.plan.Plan.{TabledPlan, IsPlan};
     ghost use Rattle.sabr_model.specs.plan.Table.{IsTableOf};
-    ghost use Rattle.sabr_model.specs.plan.Known.{IsKnown};
+    ghost use Rattle.sabr_model.specs.plan.Known.{AreKnown};
     ghost use Rattle.sabr_model.specs.plan.Openings.{IsNoted};
 
     ghost Value = { TabledPlan };
 
     ghost view = { λ a. record { plan = record { contacts = a.contacts.items; ranges = a.ranges.items; largest = a.largest }; table = keys a.table } };
 
-    ghost invariant = { λ a. IsPlan (record { contacts = a.contacts.items; ranges = a.ranges.items; largest = a.largest }) × IsTableOf a.contacts.items a.table × IsKnown (record { plan = record { contacts = a.contacts.items; ranges = a.ranges.items; largest = a.largest }; table = keys a.table }) a.ends.items a.lights × IsNoted a.openings.numbers a.openings.noted a.contacts.items };
+    ghost invariant = { λ a. IsPlan (record { contacts = a.contacts.items; ranges = a.ranges.items; largest = a.largest }) × IsTableOf a.contacts.items a.table × AreKnown (keys a.table) a.ranges.items a.lit a.contacts.items a.known.items × IsNoted a.openings.numbers a.openings.noted a.contacts.items };
 }
 
 impl<A: Allocator + Copy> Plan<A> {
@@ -79,8 +76,8 @@ impl<A: Allocator + Copy> Plan<A> {
             ranges: Vec::new(alloc),
             table: IndexMap::new(alloc),
             largest: 0,
-            ends: Vec::new(alloc),
-            lights: LightTimes::new(alloc),
+            known: Vec::new(alloc),
+            lit: false,
             openings: Openings::new(alloc),
         }
     }
@@ -101,16 +98,15 @@ impl<A: Allocator + Copy> Plan<A> {
         requires { IsPlan (record { contacts = contacts.items; ranges = ranges.items; largest = largest }) }
         ensures { IfOk result (λ p. p.plan ≡ record { contacts = contacts.items; ranges = ranges.items; largest = largest }) }
     {
-        let (table, ends) = table_of(alloc, &contacts)?;
-        let lights = lights_of(alloc, &contacts, &ranges)?;
+        let (table, known) = table_of(alloc, &contacts, &ranges)?;
         Ok(Plan {
             alloc,
             contacts,
             ranges,
             table,
             largest,
-            ends,
-            lights,
+            known,
+            lit: true,
             openings: Openings::new(alloc),
         })
     }
@@ -142,7 +138,7 @@ impl<A: Allocator + Copy> Plan<A> {
         requires { IsPlan (record { contacts = self.old.plan.contacts; ranges = ranges.items; largest = self.old.plan.largest }) }
         ensures { self.new ≡ record { plan = record { contacts = self.old.plan.contacts; ranges = ranges.items; largest = self.old.plan.largest }; table = self.old.table } }
     {
-        self.lights.clear();
+        self.lit = false;
         self.ranges = ranges;
     }
 

@@ -4,17 +4,15 @@ use Rattle.std.specs.Prelude.{Vec, slice_get, is_some, MatchOption}
 use Rattle.std.proofs.Math.ListN.{get_or-append}
 use Rattle.std.proofs.Math.Seq.{get_or-append_seam}
 use Rattle.std.proofs.lemmas.Bool.{or_left, or_right, eq-eqb, cases_lt, and_from, cases_order, eqb-true, lt-ltb, le-ltb, both_ways, false_from_ne_true}
-use Rattle.std.proofs.lemmas.List.{get_or_default, get_or_past, get_or_append_left}
+use Rattle.std.proofs.lemmas.List.{get_or_default, get_or_append_left}
 use Rattle.std.specs.declared.option.Option.{Option}
 use Rattle.indexmap.specs.IndexMap.{IndexMap, keys}
 use Rattle.sabr_model.specs.declared.contact.Contact.{Contact}
 use Rattle.sabr_model.specs.declared.contact.Range.{Range}
-use Rattle.sabr_model.specs.declared.plan.ends.Ends.{Ends}
-use Rattle.sabr_model.specs.plan.Plan.{TabledPlan, has, opens, same_opening, none_twice, rises_above}
+use Rattle.sabr_model.specs.declared.plan.known.Known.{Known}
+use Rattle.sabr_model.specs.plan.Plan.{has, opens, same_opening, none_twice, rises_above}
 use Rattle.sabr_model.specs.plan.Table.{ends_of, KeepsPlaces, IsTableOf}
-use Rattle.sabr_model.specs.plan.ContactEnds.{AreEndsOf, AreEnds}
-use Rattle.sabr_model.specs.plan.Light.{light_of}
-use Rattle.sabr_model.specs.plan.Known.{IsKnown, BeginLights}
+use Rattle.sabr_model.specs.plan.Known.{IsKnown, AreKnown, AreEnds, light_of_word}
 use Rattle.sabr_model.proofs.PlanLemmas.TableLemmas.{has_node}
 use Rattle.std.specs.List.{find, list_any}
 use Rattle.std.specs.declared.option.Option.TheVariants.{Some, None}
@@ -31,53 +29,36 @@ use Rattle.sabr_model.proofs.PlanLemmas.Deletions.{found_passes, opens_parts}
 use Rattle.sabr_model.proofs.PlanLemmas.Tabled.{none_any}
 use Rattle.sabr_model.proofs.PlanLemmas.RangeOrder.{apart_at, find_none, find_only}
 
--- where no light times are stored, the ends are all that has to be right
-pub ends_known : (p : TabledPlan) (ends : List Ends) → AreEnds p.table p.plan.contacts ends → IsKnown p ends []
-ends_known p ends are = record { ends = are; lights = λ k d t lt. absurd (omega (arith, lt)) }
+-- of no contact anything is known
+pub none_known : (table : List ℕ) (ranges : List Range) (lit : Bool) → AreKnown table ranges lit [] []
+none_known table ranges lit = record { as_many = refl; each = λ k d e lt. absurd (omega (arith, lt)) }
 
--- no contact has ends
-pub no_ends : (table : List ℕ) → AreEnds table [] []
-no_ends table = record { as_many = refl; each = λ k d e lt. absurd (omega (arith, lt)) }
+-- over other ranges the ends are still known
+pub unlit : (table : List ℕ) (ranges others : List Range) (lit : Bool) (cs : List Contact) (known : List Known) → AreKnown table ranges lit cs known → AreKnown table others false cs known
+unlit table ranges others lit cs known h = record { as_many = h.as_many; each = λ k d e lt. let one = h.each k d e lt in record { from = one.from; to = one.to; light = λ t. absurd cc } }
 
--- light times stay right if a contact is added
-pub lights_push : (ranges : List Range) (cs : List Contact) (c : Contact) (lights : List (Option ℕ)) → BeginLights ranges cs lights → BeginLights ranges (cs ++ c ∷ []) lights
-lights_push ranges cs c lights h k d t lt =
-    elim (cases_lt k (length cs)) [
-      | inl early ↦ rw (get_or-append cs (c ∷ []) d k early) (h k d t lt)
-      | inr late ↦
-          let x = get_or (cs ++ c ∷ []) k d in
-          subst (λ y. get_or lights k t ≡ light_of (record { contacts = []; ranges = ranges; largest = 0 }) y) (get_or_past cs k x late) (h k x t lt)
-    ]
+-- and so are the light times where only the ends were renewed
+pub relit : (old new : List ℕ) (ranges : List Range) (lit : Bool) (cs : List Contact) (before after : List Known) → AreKnown old ranges lit cs before → AreEnds new cs after → ((k : ℕ) (e : Known) → (get_or after k e).light ≡ (get_or before k e).light) → AreKnown new ranges lit cs after
+relit old new ranges lit cs before after h ends same = record {
+  as_many = ends.as_many;
+  each = λ k d e lt. record { from = (ends.each k d e lt).from; to = (ends.each k d e lt).to; light = λ t. ap light_of_word (same k e) ∙ (h.each k d e lt).light t };
+}
 
--- what holds beside each element holds with one more
-module _ {X Y : Type 0} (P : X → Y → Type 0) (xs : List X) (ys : List Y) (x : X) (y : Y) (range : length ys < length xs) (before : (k : ℕ) (d : X) (e : Y) → k < length ys → P (get_or xs k d) (get_or ys k e)) (here : P (get_or xs (length ys) x) y) where
-  pub beside_more : (k : ℕ) (d : X) (e : Y) → k < length ys + 1 → P (get_or xs k d) (get_or (ys ++ y ∷ []) k e)
-  beside_more k d e lt =
-      elim (cases_lt k (length ys)) [
-        | inl early ↦ rw (get_or-append ys (y ∷ []) e k early) (before k d e early)
-        | inr late ↦
-            let is : k ≡ length ys = omega arith in
-            let other : get_or xs (length ys) d ≡ get_or xs (length ys) x = get_or_default xs (length ys) d x range in
-            rw (is, other, get_or-append_seam ys y [] e) here
-      ]
-
--- ends stay where the nodes keep their places
-pub ends_kept_at : (old new : List ℕ) (c : Contact) (e : Ends) → KeepsPlaces old new → AreEndsOf old c e → AreEndsOf new c e
-ends_kept_at old new c e places h = record { from = places e.from c.from h.from; to = places e.to c.to h.to }
-
--- the ends of one contact more
-pub ends_push : (old new : List ℕ) (cs : List Contact) (ends : List Ends) (c : Contact) (e : Ends) → KeepsPlaces old new → AreEnds old cs ends → AreEndsOf new c e → AreEnds new (cs ++ c ∷ []) (ends ++ e ∷ [])
-ends_push old new cs ends c e places h here =
+-- one contact more is known
+pub known_push : (old new : List ℕ) (ranges : List Range) (lit : Bool) (cs : List Contact) (known : List Known) (c : Contact) (e : Known) → KeepsPlaces old new → AreKnown old ranges lit cs known → IsKnown new ranges lit c e → AreKnown new ranges lit (cs ++ c ∷ []) (known ++ e ∷ [])
+known_push old new ranges lit cs known c e places h here =
     let many = h.as_many in
     let more = length-append cs (c ∷ []) in
     record {
-      as_many = length-append ends (e ∷ []) ∙ ap (λ n. n + 1) many ∙ sym more;
+      as_many = length-append known (e ∷ []) ∙ ap (λ n. n + 1) many ∙ sym more;
       each = λ k d f lt.
           elim (cases_lt k (length cs)) [
-            | inl early ↦ rw (get_or-append cs (c ∷ []) d k early, get_or-append ends (e ∷ []) f k (omega (arith, early, many))) (ends_kept_at old new _ _ places (h.each k d f early))
+            | inl early ↦
+                let was = h.each k d f early in
+                rw (get_or-append cs (c ∷ []) d k early, get_or-append known (e ∷ []) f k (omega (arith, early, many))) (record { from = places _ _ was.from; to = places _ _ was.to; light = was.light })
             | inr late ↦
                 let is : k ≡ length cs = omega (arith, lt, late, more) in
-                rw (is, get_or-append_seam cs c [] d, ← many, get_or-append_seam ends e [] f) here
+                rw (is, get_or-append_seam cs c [] d, ← many, get_or-append_seam known e [] f) here
           ];
     }
 

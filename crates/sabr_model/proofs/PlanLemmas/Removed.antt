@@ -1,5 +1,5 @@
 -- A contact that is taken out of its place, and what stands beside the others.
-use Rattle.std.proofs.Common.{◌≡◌, ℕ, zero, suc, ◌+◌, ◌<◌, ◌≤◌, Bool, true, false, cond, not, ltb, List, [], ◌∷◌, length, get_or, map, remove, refl, sym, ap, subst, ◌∙◌, inl, inr, arith}
+use Rattle.std.proofs.Common.{◌≡◌, ℕ, zero, suc, ◌+◌, ◌<◌, Bool, true, false, cond, not, ltb, List, [], ◌∷◌, length, get_or, map, remove, refl, sym, ap, subst, ◌∙◌, inl, inr, arith}
 use Rattle.std.specs.Prelude.{slice_get, MatchOption}
 use Rattle.std.specs.List.{find, position, position_or_len, AllByRecursion}
 use Rattle.std.proofs.lemmas.Bool.{and_parts, eq-eqb, ne_eqb, ltb-true, ltb-false, cases_lt}
@@ -10,12 +10,10 @@ use Rattle.std.specs.declared.option.Option.{Option}
 use Rattle.std.specs.declared.option.Option.TheVariants.{Some, None}
 use Rattle.sabr_model.specs.declared.contact.Contact.{Contact}
 use Rattle.sabr_model.specs.declared.contact.Range.{Range}
-use Rattle.sabr_model.specs.declared.plan.ends.Ends.{Ends}
+use Rattle.sabr_model.specs.declared.plan.known.Known.{Known}
 use Rattle.sabr_model.specs.plan.Plan.{rises_above}
 use Rattle.sabr_model.specs.plan.Table.{without_number}
-use Rattle.sabr_model.specs.plan.ContactEnds.{AreEndsOf, AreEnds}
-use Rattle.sabr_model.specs.plan.Light.{light_of}
-use Rattle.sabr_model.specs.plan.Known.{BeginLights}
+use Rattle.sabr_model.specs.plan.Known.{AreKnown}
 use Rattle.sabr_model.proofs.PlanLemmas.Numbered.{number_above}
 use Rattle.sabr_model.proofs.PlanLemmas.Without.{all_above}
 
@@ -35,22 +33,6 @@ pub found_there : (p : Contact → Bool) (cs lent : List Contact) (i : ℕ) (x :
 found_there p cs lent i x same there read =
     let at : (i < length cs) × (find p cs ≡ slice_get cs i) = subst (λ ds. (i < length ds) × (find p ds ≡ slice_get ds i)) same there in
     (at.0, at.1 ∙ slice_get-get_or cs i x at.0 ∙ ap Some (sym read))
-
--- ---- lists
-
--- nothing is removed behind the last
-pub remove_past : {X : Type 0} (xs : List X) (i : ℕ) → length xs ≤ i → remove xs i ≡ xs
-remove_past [] zero le = refl
-remove_past [] (suc i) le = refl
-remove_past (x ∷ xs) zero le = absurd (omega arith)
-remove_past (x ∷ xs) (suc i) le = ap (λ ys. x ∷ ys) (remove_past xs i (omega arith))
-
--- an element is removed before a map or after it
-pub map-remove : {X Y : Type 0} (f : X → Y) (xs : List X) (i : ℕ) → map f (remove xs i) ≡ remove (map f xs) i
-map-remove f [] zero = refl
-map-remove f [] (suc i) = refl
-map-remove f (x ∷ xs) zero = refl
-map-remove f (x ∷ xs) (suc i) = ap (λ ys. f x ∷ ys) (map-remove f xs i)
 
 -- ---- to take a contact out of its place is to filter out its number
 
@@ -76,34 +58,18 @@ removed low (c ∷ cs) (suc k) d rises lt =
 pub others : (cs : List Contact) (i : ℕ) (x : Contact) → rises_above 0 (map (λ c. c.number) cs) ≡ true → i < length cs → x ≡ get_or cs i x → remove cs i ≡ without_number x.number cs
 others cs i x rises lt read = removed 0 cs i x rises lt ∙ ap (λ (d : Contact). without_number d.number cs) (sym read)
 
--- ---- what stands beside the contacts
-
--- what holds beside each element holds without those at one place
-module _ {X Y : Type 0} (P : X → Y → Type 0) (xs : List X) (ys : List Y) (i : ℕ) (in_xs : i < length xs) (in_ys : i < length ys) (before : (k : ℕ) (d : X) (e : Y) → k < length ys → P (get_or xs k d) (get_or ys k e)) where
-  beside_removed : (k : ℕ) (d : X) (e : Y) → k < length (remove ys i) → P (get_or (remove xs i) k d) (get_or (remove ys i) k e)
-  beside_removed k d e lt =
-      let fewer = length-remove ys i in_ys in
-      elim (cases_lt k i) [
-        | inl early ↦ rw (get_or-remove_below xs i d k early in_xs, get_or-remove_below ys i e k early in_ys) (before k d e (omega (arith, early, in_ys)))
-        | inr late ↦ rw (get_or-remove_above xs i d k late in_xs, get_or-remove_above ys i e k late in_ys) (before (k + 1) d e (omega (arith, lt, fewer)))
-      ]
-
--- the ends of the other contacts
-pub ends_removed : (table : List ℕ) (cs : List Contact) (ends : List Ends) (i : ℕ) → i < length cs → AreEnds table cs ends → AreEnds table (remove cs i) (remove ends i)
-ends_removed table cs ends i lt h =
+-- the others are known as before
+pub known_removed : (table : List ℕ) (ranges : List Range) (lit : Bool) (cs : List Contact) (known : List Known) (i : ℕ) → i < length cs → AreKnown table ranges lit cs known → AreKnown table ranges lit (remove cs i) (remove known i)
+known_removed table ranges lit cs known i lt h =
     let many = h.as_many in
-    let within : i < length ends = omega (arith, lt, many) in
+    let within : i < length known = omega (arith, lt, many) in
     let one = length-remove cs i lt in
-    let other = length-remove ends i within in
+    let other = length-remove known i within in
     record {
       as_many = omega (arith, one, other, many);
-      each = λ k d e less. beside_removed (λ c f. AreEndsOf table c f) cs ends i lt within (λ j c f under. h.each j c f (omega (arith, under, many))) k d e (omega (arith, less, one, other, many));
+      each = λ k d e less.
+          elim (cases_lt k i) [
+            | inl early ↦ rw (get_or-remove_below cs i d k early lt, get_or-remove_below known i e k early within) (h.each k d e (omega (arith, early, lt)))
+            | inr late ↦ rw (get_or-remove_above cs i d k late lt, get_or-remove_above known i e k late within) (h.each (k + 1) d e (omega (arith, less, one)))
+          ];
     }
-
--- their light times
-pub lights_removed : (ranges : List Range) (cs : List Contact) (lights : List (Option ℕ)) (i : ℕ) → i < length cs → BeginLights ranges cs lights → BeginLights ranges (remove cs i) (remove lights i)
-lights_removed ranges cs lights i lt h =
-    elim (cases_lt i (length lights)) [
-      | inl within ↦ beside_removed (λ c l. l ≡ light_of (record { contacts = []; ranges = ranges; largest = 0 }) c) cs lights i lt within h
-      | inr past ↦ rw (remove_past lights i past) (λ k d t less. rw (get_or-remove_below cs i d k (omega (arith, less, past)) lt) (h k d t less))
-    ]

@@ -7,7 +7,8 @@ ghost use Rattle.sabr_model.specs.declared.fault.AddFault.{AddFault};
 ghost use Rattle.sabr_model.specs.declared.fault.AddFault.TheVariants.{NoMemory};
 ghost use Rattle.sabr_model.specs.plan.Adding.{next_contact, contact_refusal, with_contact};
 
-use super::{Ends, Plan};
+use super::contact_light::light_of_contact;
+use super::{Known, Plan};
 use crate::contact::Contact;
 use crate::fault::AddFault;
 use crate::node_table::note_contact;
@@ -44,9 +45,10 @@ impl<A: Allocator + Copy> Plan<A> {
             rate,
         };
         self.contacts.reserve(1)?;
-        self.ends.reserve(1)?;
+        self.known.reserve(1)?;
         let both = note_contact(self.alloc, &mut self.table, &contact, (0, 0))?;
-        self.ends.push_reserved(Ends::of(both.0, both.1));
+        let light = light_of_contact(&self.ranges, &contact);
+        self.known.push_reserved(Known::of(both.0, both.1, light));
         self.contacts.push_reserved(contact);
         self.largest = number;
         self.openings.note_all(&self.contacts).is_ok();

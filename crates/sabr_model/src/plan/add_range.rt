@@ -25,9 +25,9 @@ impl<A: Allocator + Copy> Plan<A> {
         ensures ok { OnOk result (self.new ≡ record { plan = with_range self.old.plan range; table = self.old.table }) }
         ensures err { OnErr result (self.new ≡ self.old) }
     {
-        self.lights.clear();
         let place = ranges_until(&self.ranges, range.key());
         self.ranges.insert(place, range)?;
+        self.lit = false;
         Ok(())
     }
 

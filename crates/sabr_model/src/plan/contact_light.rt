@@ -32,9 +32,10 @@ impl<A: Allocator + Copy> Plan<A> {
         requires there { contact.now ≡ slice_index_or self.now.plan.contacts place contact.now }
         ensures { result ≡ light_of self.now.plan contact.now }
     {
-        match self.lights.get(place) {
-            Some(light) => light,
-            None => light_of_contact(&self.ranges, contact),
+        if self.lit {
+            self.known[place].light_time()
+        } else {
+            light_of_contact(&self.ranges, contact)
         }
     }
 }

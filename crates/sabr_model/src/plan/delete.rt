@@ -9,7 +9,7 @@ ghost use Rattle.sabr_model.specs.declared.fault.AddFault.TheVariants.{NothingTo
 ghost use Rattle.sabr_model.specs.plan.Adding.{number_of_opening, without_contact, begins, without_range};
 
 use super::Plan;
-use super::ends::remove_ends;
+use super::known::remove_known;
 use crate::contact::Range;
 use crate::fault::AddFault;
 use crate::node_table::forget_contact;
@@ -37,14 +37,13 @@ impl<A: Allocator + Copy> Plan<A> {
         let contact = self.contacts[place];
         let same_nodes = forget_contact(&mut self.table, &self.contacts, &contact);
         self.contacts.remove(place);
-        remove_ends(
+        remove_known(
             &self.table,
             &self.contacts,
-            &mut self.ends,
+            &mut self.known,
             place,
             same_nodes,
         );
-        self.lights.remove(place);
         self.openings.remove(place);
         Ok(contact.number)
     }
@@ -66,7 +65,7 @@ impl<A: Allocator + Copy> Plan<A> {
         if !Range::any_begins(&self.ranges, one, other, start) {
             return Err(AddFault::NothingToDelete);
         }
-        self.lights.clear();
+        self.lit = false;
         self.ranges.retain(|r| !r.begins(one, other, start));
         Ok(())
     }

@@ -1,15 +1,13 @@
-//! The light times of all contacts of a plan, for which ranges are guessed before they are searched.
+//! Light times of one contact after another, for which ranges are guessed before they are searched.
 
-ghost use Rattle.std.specs.Prelude.{◌≡◌, ◌≤◌, [], IfOk, IfSome, Some, IsTrue};
-ghost use Rattle.std.specs.List.{list_all, AllByRecursion};
-ghost use Rattle.sabr_model.specs.plan.Plan.{most_light};
-ghost use Rattle.sabr_model.specs.plan.Known.{AreLights};
+ghost use Rattle.std.specs.Prelude.{◌≡◌, [], IfSome, Some, IsTrue};
+ghost use Rattle.std.specs.List.{list_all};
 ghost use Rattle.sabr_model.specs.plan.Light.{light_of, light_of_pair, holds_both_ways};
 ghost use Rattle.sabr_model.specs.plan.RangeOrder.{IsRangeList};
 
-use super::light_times::{LightTimes, word_of};
 use super::ranges::{light_of_range, light_until, ranges_until};
 use crate::contact::{Contact, Range};
+use crate::node_table::{guess_at, note_guess};
 use std::alloc::{AllocError, Allocator};
 
 /// The number of slots with guesses for each range. With 8, relay-moon-20000 has some 2300 wrong guesses, each of which
@@ -20,31 +18,11 @@ const SLOTS_OF_RANGE: usize = 16;
 /// has 990 more wrong guesses.
 const MAX_RANGES: usize = 4096;
 
-/// Returns the light time of each contact. A pair's first range is guessed first, and then the range of the pair's last
-/// contact. It takes a few steps for a contact whose range is the guessed one or the one before it, and one or two
-/// binary searches of the ranges for others.
-pub fn lights_of<A: Allocator + Copy>(
-    alloc: A,
-    contacts: &[Contact],
-    ranges: &[Range],
-) -> Result<LightTimes<A>, AllocError>
-    requires ranges { IsRangeList ranges.now }
-    requires limit { AllByRecursion (λ r. r.light ≤ most_light) ranges.now }
-    ensures { IfOk result (λ lights. AreLights ranges.now contacts.now lights) }
-{
-    let both_ways = all_hold_both_ways(ranges);
-    let mut words = Vec::new(alloc);
-    words.reserve(contacts.len())?;
-    let mut guesses = guesses_of(alloc, ranges)?;
-    for contact in contacts {
-        let light = light_of_contact_guessed(ranges, contact, both_ways, &mut guesses);
-        words.push_reserved(word_of(light));
-    }
-    Ok(LightTimes::of(words))
-}
-
 /// Returns for each pair of nodes the index of its first range, as a guess. Pairs may share a slot.
-fn guesses_of<A: Allocator + Copy>(alloc: A, ranges: &[Range]) -> Result<Vec<u16, A>, AllocError> {
+pub fn guesses_of<A: Allocator + Copy>(
+    alloc: A,
+    ranges: &[Range],
+) -> Result<Vec<u16, A>, AllocError> {
     let mut guesses = Vec::new(alloc);
     let slots = (ranges.len().min(MAX_RANGES) * SLOTS_OF_RANGE).next_power_of_two();
     guesses.resize(slots, 0)?;
@@ -62,24 +40,17 @@ fn slot_of(guesses: &[u16], one: u64, other: u64) -> usize {
     one.wrapping_mul(509).wrapping_add(other) as usize & guesses.len().saturating_sub(1)
 }
 
-/// Notes the index of a range in a slot.
-#[inline(always)]
-fn note_guess(guesses: &mut [u16], slot: usize, place: usize) {
-    if slot < guesses.len() {
-        guesses[slot] = place.min(u16::MAX as usize) as u16;
-    }
-}
-
 /// Returns true if each range is written from the smaller node, so that it holds both ways.
-fn all_hold_both_ways(ranges: &[Range]) -> bool
+pub fn all_hold_both_ways(ranges: &[Range]) -> bool
     ensures { result ≡ list_all holds_both_ways ranges.now }
 {
     ranges.iter().all(|r| r.one < r.other)
 }
 
 /// Returns the light time that these ranges state for a contact. `both_ways` means that each is written from the smaller
-/// node.
-fn light_of_contact_guessed(
+/// node. The pair's first range is guessed first, and then the range of the pair's last contact. It takes a few steps
+/// for a contact whose range is the guessed one or the one after it, and one or two binary searches for others.
+pub fn light_of_contact_guessed(
     ranges: &[Range],
     contact: &Contact,
     both_ways: bool,
@@ -110,10 +81,7 @@ fn light_guessed(ranges: &[Range], one: u64, other: u64, t: u64, guesses: &mut [
     ensures { result ≡ light_of_pair ranges.now one other t }
 {
     let slot = slot_of(guesses, one, other);
-    let guess = match guesses.get(slot) {
-        Some(guess) => *guess as usize,
-        None => 0,
-    };
+    let guess = guess_at(guesses, slot);
     let light = light_at(ranges, guess, one, other, t);
     if light.is_some() {
         return light;

@@ -7,13 +7,12 @@ use Rattle.sabr_model.specs.declared.contact.Contact.{Contact}
 use Rattle.sabr_model.specs.declared.fault.AddFault.TheVariants.{NothingToDelete}
 use Rattle.sabr_model.specs.plan.Plan.{ContactPlan, TabledPlan, opens}
 use Rattle.sabr_model.specs.plan.Adding.{number_of_opening, without_contact}
-use Rattle.sabr_model.specs.plan.ContactEnds.{AreEnds}
-use Rattle.sabr_model.specs.plan.Known.{BeginLights}
+use Rattle.sabr_model.specs.plan.Known.{AreKnown}
 use Rattle.sabr_model.proofs.PlanLemmas.Deletions.{found_by_number, without_opening, IsPlan-fewer_contacts}
 use Rattle.sabr_model.proofs.PlanLemmas.Limits.{few_contacts}
 use Rattle.sabr_model.specs.plan.Openings.{IsNoted}
-use Rattle.sabr_model.proofs.PlanLemmas.KnownLemmas.{noted_removed}
-use Rattle.sabr_model.proofs.PlanLemmas.Removed.{found_there, others, ends_removed, lights_removed}
+use Rattle.sabr_model.proofs.PlanLemmas.KnownLemmas.{noted_removed, unlit, relit}
+use Rattle.sabr_model.proofs.PlanLemmas.Removed.{found_there, others, known_removed}
 use Rattle.sabr_model.proofs.plan.Plan.delete_contact.Goals as goal
 
 pub find-requires : goal.find-requires
@@ -40,16 +39,16 @@ remove-requires g c =
     let lt = there.0 in
     omega (arith, lt, c.self.inside.contacts.ok.0)
 
-pub remove_ends-requires-clause-table : goal.remove_ends-requires-clause-table
-remove_ends-requires-clause-table g c =
+pub remove_known-requires-clause-table : goal.remove_known-requires-clause-table
+remove_known-requires-clause-table g c =
     let cs = c.self.inside.contacts.items in
     let x = c.index.result.now in
     let there = found_there (opens c.args.from c.args.to c.args.start) cs c.deref.result.now c.in-Some.place x c.deref.ensures.value c.in-Some.ensures c.index.ensures in
     let left = others cs c.in-Some.place x c.self.invariant.0.numbers_rise there.0 c.index.ensures in
     rw (c.deref-3.ensures.value, c.remove.ensures.items, left) (rw c.deref-2.ensures.value at c.forget_contact-same_nodes.ensures.table)
 
-pub remove_ends-requires-clause-few : goal.remove_ends-requires-clause-few
-remove_ends-requires-clause-few g c =
+pub remove_known-requires-clause-few : goal.remove_known-requires-clause-few
+remove_known-requires-clause-few g c =
     let cs = c.self.inside.contacts.items in
     let x = c.index.result.now in
     let there = found_there (opens c.args.from c.args.to c.args.start) cs c.deref.result.now c.in-Some.place x c.deref.ensures.value c.in-Some.ensures c.index.ensures in
@@ -57,22 +56,22 @@ remove_ends-requires-clause-few g c =
     let p : ContactPlan = record { contacts = cs; ranges = c.self.inside.ranges.items; largest = c.self.inside.largest } in
     rw (c.deref-3.ensures.value, c.remove.ensures.items, left) (few_contacts _ (IsPlan-fewer_contacts p (λ d. not (eqb d.number x.number)) c.self.invariant.0))
 
-pub remove_ends-requires-clause-place : goal.remove_ends-requires-clause-place
-remove_ends-requires-clause-place g c =
+pub remove_known-requires-clause-place : goal.remove_known-requires-clause-place
+remove_known-requires-clause-place g c =
     let cs = c.self.inside.contacts.items in
     let x = c.index.result.now in
     let there = found_there (opens c.args.from c.args.to c.args.start) cs c.deref.result.now c.in-Some.place x c.deref.ensures.value c.in-Some.ensures c.index.ensures in
     let lt = there.0 in
-    let many = c.self.invariant.2.ends.as_many in
+    let many = c.self.invariant.2.as_many in
     omega (arith, lt, many)
 
-pub remove_ends-requires-clause-same_nodes : goal.remove_ends-requires-clause-same_nodes
-remove_ends-requires-clause-same_nodes g c = λ same.
+pub remove_known-requires-clause-same_nodes : goal.remove_known-requires-clause-same_nodes
+remove_known-requires-clause-same_nodes g c = λ same.
     let cs = c.self.inside.contacts.items in
     let x = c.index.result.now in
     let there = found_there (opens c.args.from c.args.to c.args.start) cs c.deref.result.now c.in-Some.place x c.deref.ensures.value c.in-Some.ensures c.index.ensures in
     rw (c.deref-3.ensures.value, c.remove.ensures.items, c.forget_contact-same_nodes.ensures.same_nodes same)
-    (ends_removed (keys c.self.inside.table) cs c.self.inside.ends.items c.in-Some.place there.0 c.self.invariant.2.ends)
+    (unlit _ _ _ _ _ _ (known_removed _ _ _ cs c.self.inside.known.items c.in-Some.place there.0 c.self.invariant.2))
 
 pub invariant_of-self : goal.invariant_of-self
 invariant_of-self g c =
@@ -82,14 +81,14 @@ invariant_of-self g c =
     let left = others cs c.in-Some.place x c.self.invariant.0.numbers_rise there.0 c.index.ensures in
     let p : ContactPlan = record { contacts = cs; ranges = c.self.inside.ranges.items; largest = c.self.inside.largest } in
     let kept = c.remove.ensures.items ∙ left in
-    rw (kept, c.remove-2.ensures.items) (
+    rw kept (
       IsPlan-fewer_contacts p (λ d. not (eqb d.number x.number)) c.self.invariant.0,
       rw c.deref-2.ensures.value at c.forget_contact-same_nodes.ensures.table,
-      record {
-        ends = subst (λ (ds : List Contact). AreEnds (keys c.forget_contact-same_nodes.new.table) ds c.remove_ends.new.ends.items) (c.deref-3.ensures.value ∙ kept) c.remove_ends.ensures;
-        lights = subst (λ (ds : List Contact). BeginLights p.ranges ds (remove c.self.inside.lights c.in-Some.place)) left (lights_removed p.ranges cs c.self.inside.lights c.in-Some.place there.0 c.self.invariant.2.lights);
-      },
-      rw (c.remove-3.ensures.numbers, c.remove-3.ensures.noted)
+      relit _ _ _ _ _ _ c.remove_known.new.known.items
+          (subst (λ (ds : List Contact). AreKnown (keys c.self.inside.table) p.ranges c.self.inside.lit ds (remove c.self.inside.known.items c.in-Some.place)) left (known_removed _ _ _ cs c.self.inside.known.items c.in-Some.place there.0 c.self.invariant.2))
+          (rw (c.deref-3.ensures.value, kept) at c.remove_known.ensures.ends)
+          c.remove_known.ensures.lights,
+      rw (c.remove-2.ensures.numbers, c.remove-2.ensures.noted)
           (subst (λ (ds : List Contact). IsNoted c.self.inside.openings.numbers (cond (ltb c.in-Some.place c.self.inside.openings.noted) (c.self.inside.openings.noted - 1) c.self.inside.openings.noted) ds) left
           (noted_removed c.self.inside.openings.numbers c.self.inside.openings.noted cs c.self.invariant.3 c.in-Some.place there.0)),
     )

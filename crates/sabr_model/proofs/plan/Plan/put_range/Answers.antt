@@ -6,7 +6,7 @@ use Rattle.sabr_model.specs.plan.Plan.{ContactPlan, TabledPlan}
 use Rattle.sabr_model.specs.plan.Adding.{range_refusal, with_range, by_range_key}
 use Rattle.sabr_model.proofs.PlanLemmas.RangeLemmas.{IsPlan-range}
 use Rattle.sabr_model.proofs.PlanLemmas.RangeOrder.{range_list, count_is_put}
-use Rattle.sabr_model.proofs.PlanLemmas.KnownLemmas.{ends_known}
+use Rattle.sabr_model.proofs.PlanLemmas.KnownLemmas.{unlit}
 use Rattle.sabr_model.proofs.plan.Plan.put_range.Goals as goal
 
 pub ranges_until-place-requires : goal.ranges_until-place-requires
@@ -22,8 +22,8 @@ invariant_of-self-2 g c =
     let lent : c.deref.result.now ≡ p.ranges = c.deref.ensures.value in
     let put : insert p.ranges place c.args.range ≡ put_in by_range_key c.args.range p.ranges =
     count_is_put p c.args.range place c.self.invariant.0 accept (rw (lent, c.key.ensures) at c.ranges_until-place.ensures) in
-    rw (c.in_ok-insert.ensures.items, put, c.clear.ensures.items)
-    (IsPlan-range p c.args.range c.self.invariant.0 (c.requires.one, omega arith) (c.requires.other, omega arith) c.requires.end c.requires.light accept, c.self.invariant.1, ends_known _ _ c.self.invariant.2.ends, c.self.invariant.3)
+    rw (c.in_ok-insert.ensures.items, put)
+    (IsPlan-range p c.args.range c.self.invariant.0 (c.requires.one, omega arith) (c.requires.other, omega arith) c.requires.end c.requires.light accept, c.self.invariant.1, unlit _ _ _ _ _ _ c.self.invariant.2, c.self.invariant.3)
 
 pub returns-clause-ok : goal.returns-clause-ok
 returns-clause-ok g c =

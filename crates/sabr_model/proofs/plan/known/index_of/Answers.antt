@@ -3,7 +3,7 @@ use Rattle.std.specs.Prelude.{MatchOption, slice_get, false}
 use Rattle.indexmap.specs.IndexMap.{keys}
 use Rattle.sabr_model.specs.plan.Plan.{has}
 use Rattle.sabr_model.proofs.PlanLemmas.Tabled.{index_tells, index_of_member}
-use Rattle.sabr_model.proofs.plan.ends.index_of.Goals as goal
+use Rattle.sabr_model.proofs.plan.known.index_of.Goals as goal
 
 pub returns : goal.returns
 returns g c =
