@@ -19,7 +19,7 @@ pub record IsIndex (p : TabledPlan) (linked : List NodeLinks) (starts : List ℕ
 
 -- these are the links of the plan
 abbrev pub AreLinksOfPlan : {A : Type 0} → TabledPlan → PlanLinks A → Type 0
-AreLinksOfPlan p l = IsIndex p l.linked l.incoming.starts.items l.incoming.named.items
+AreLinksOfPlan p l = IsIndex p l.linked l.incoming.starts.items l.incoming.items.items
 
 -- the links that an index reads, its own or lent ones
 abbrev pub held_links : {A : Type 0} → HeldLinks A → PlanLinks A

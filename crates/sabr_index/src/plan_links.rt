@@ -6,10 +6,11 @@ ghost use Rattle.sabr_model.specs.plan.Tabled.{IsTabled};
 ghost use Rattle.sabr_index.specs.Index.{AreLinksOfPlan};
 
 use crate::building::link_nodes;
-use crate::incoming::{IncomingLinks, incoming_links};
+use crate::incoming::incoming_links;
 use crate::order::order_of_contacts;
+use crate::senders::Incoming;
 use crate::table::LinkTable;
-use sabr_model::{Known, NoMemory, Plan};
+use sabr_model::{Grouped, Known, NoMemory, Plan};
 use std::alloc::{Allocator, Global};
 
 /// The links of a plan. The owner of a plan can store them beside it, and lend them to each index of it, as long as the
@@ -19,7 +20,7 @@ pub struct PlanLinks<A: Allocator + Copy = Global> {
     /// By node its links.
     pub linked: LinkTable<A>,
     /// By node the links to it.
-    pub incoming: IncomingLinks<A>,
+    pub incoming: Grouped<Incoming, A>,
 }
 
 /// The links that an index reads.

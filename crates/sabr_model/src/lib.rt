@@ -64,7 +64,7 @@ pub use devices::{Device, Failed, Read, Write, WriteFault, write_text};
 pub use fault::{AddFault, HopFault, NoMemory, RequestError};
 pub use following::{FollowedPath, NextHop, Reached, follow, follow_after, follow_hop};
 pub use ghost_values::{GhostBytes, GhostCount, GhostFlag};
-pub use grouping::{Grouped, Items, group};
+pub use grouping::{Grouped, Groups, group};
 pub use hop::Hop;
 pub use laws::{
     candidates_hold_each_once, every_way_is_listed, faults_tell_routes, law1, law2, law3,

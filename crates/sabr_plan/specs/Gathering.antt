@@ -104,24 +104,14 @@ keyed r = (range_key r, r)
 abbrev pub IsRangeTree : BTreeMap (ℕ × ℕ × ℕ) Range → Type 0
 IsRangeTree m = (m.entries ≡ map keyed (values m)) × IsPlan (plan_of_ranges (values m))
 
--- ranges, each at a digit of 11 bits of one of its nodes
-pub record Digits : Type 0 where
-  pub ranges : List Range
-  pub side : Side
-  pub shift : ℕ
-
 -- a node of a range
 abbrev pub side_node : Side → Range → ℕ
 side_node One r = r.one
 side_node Other r = r.other
 
--- the digit at a shift
+-- its digit of 11 bits at a shift
 abbrev pub digit_of : Side → ℕ → Range → ℕ
 digit_of side shift r = side_node side r / 2 ^ shift % 2048
-
--- the range at a place
-abbrev pub range_at : List Range → ℕ → Range
-range_at ranges place = slice_index_or ranges place (record { one = 0; other = 0; start = 0; end = 0; light = 0 })
 
 -- the number of buckets of ranges
 abbrev pub range_buckets : ℕ
