@@ -1,6 +1,6 @@
 //! The table of nodes: for each node, the numbers of the contacts that it sends.
 
-ghost use Rattle.std.specs.Prelude.{◌≡◌, ℕ, ◌==◌, ◌<◌, ◌≤◌, ◌+◌, ◌∷◌, ◌++◌, true, Some, None, is_some, IsTrue, map, find, not, ◌&&◌, ◌||◌, filter, nat_eq, slice_get, IfOk, OnOk, OnErr, IsOk, length, if◌then◌else◌};
+ghost use Rattle.std.specs.Prelude.{◌≡◌, ℕ, ◌==◌, ◌<◌, ◌≤◌, ◌+◌, true, Some, None, is_some, IsTrue, map, find, not, ◌&&◌, ◌||◌, filter, nat_eq, slice_get, IfOk, OnOk, OnErr, IsOk, length, if◌then◌else◌};
 ghost use Rattle.std.specs.Option.{option_map};
 ghost use Rattle.indexmap.specs.IndexMap.{IsUnique, get, keys, spare};
 ghost use Rattle.std.specs.List.{list_any, AllByRecursion};

@@ -1,8 +1,7 @@
 //! Adding contacts, and refusing them.
 
-ghost use Rattle.std.specs.Prelude.{◌≡◌, ℕ, ◌<◌, ◌≤◌, ◌+◌, [], None, Some, Err, IfOk, OnOk, OnErr, IsOkUnless};
-ghost use Rattle.std.specs.List.{list_any};
-ghost use Rattle.sabr_model.specs.plan.Plan.{last_time, opens};
+ghost use Rattle.std.specs.Prelude.{◌≡◌, ◌<◌, ◌≤◌, ◌+◌, None, Some, Err, IfOk, OnOk, OnErr, IsOkUnless};
+ghost use Rattle.sabr_model.specs.plan.Plan.{last_time};
 ghost use Rattle.sabr_model.specs.declared.fault.AddFault.{AddFault};
 ghost use Rattle.sabr_model.specs.declared.fault.AddFault.TheVariants.{NoMemory};
 ghost use Rattle.sabr_model.specs.plan.Adding.{next_contact, contact_refusal, with_contact};

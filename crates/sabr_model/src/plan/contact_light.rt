@@ -1,6 +1,6 @@
 //! The one-way light time in force at a contact's start, and the arrival over a contact.
 
-ghost use Rattle.std.specs.Prelude.{◌≡◌, ◌<◌, ◌≤◌, [], Some, IfSome, length, slice_index_or};
+ghost use Rattle.std.specs.Prelude.{◌≡◌, ◌<◌, ◌≤◌, [], Some, IfSome};
 ghost use Rattle.sabr_model.specs.plan.Plan.{most_light, last_time};
 ghost use Rattle.sabr_model.specs.plan.Light.{light_of};
 ghost use Rattle.sabr_model.specs.plan.RangeOrder.{IsRangeList};
@@ -23,20 +23,6 @@ impl<A: Allocator + Copy> Plan<A> {
         ensures limit { IfSome result (λ l. l ≤ most_light) }
     {
         light_of_contact(&self.ranges, contact)
-    }
-
-    /// Returns the light time of the contact at an index.
-    #[inline(always)]
-    pub(super) fn light_at(&self, place: usize, contact: &Contact) -> Option<u32>
-        requires within { place < length self.now.plan.contacts }
-        requires there { contact.now ≡ slice_index_or self.now.plan.contacts place contact.now }
-        ensures { result ≡ light_of self.now.plan contact.now }
-    {
-        if self.lit {
-            self.known[place].light_time()
-        } else {
-            light_of_contact(&self.ranges, contact)
-        }
     }
 }
 

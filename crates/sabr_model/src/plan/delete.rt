@@ -1,10 +1,7 @@
 //! Deleting contacts and ranges.
 
-ghost use Rattle.std.specs.Prelude.{◌≡◌, ◌==◌, ◌↔◌, IsTrue, OnOk, OnErr, IfErr, IsOk, ok_or};
+ghost use Rattle.std.specs.Prelude.{◌≡◌, ◌↔◌, IsTrue, OnOk, OnErr, IfErr, IsOk, ok_or};
 ghost use Rattle.std.specs.List.{list_any};
-ghost use Rattle.std.specs.Option.{option_map};
-ghost use Rattle.sabr_model.specs.plan.Plan.{opens, has};
-ghost use Rattle.sabr_model.specs.plan.Table.{ends_of};
 ghost use Rattle.sabr_model.specs.declared.fault.AddFault.TheVariants.{NothingToDelete};
 ghost use Rattle.sabr_model.specs.plan.Adding.{number_of_opening, without_contact, begins, without_range};
 

@@ -2,7 +2,6 @@
 
 ghost use Rattle.std.specs.Prelude.{◌≡◌, ℕ, ◌<◌, ◌≤◌, ◌^◌, Some, IfSome, IsTrue, length, remove, slice_get, slice_index_or};
 ghost use Rattle.indexmap.specs.IndexMap.{keys};
-ghost use Rattle.sabr_model.specs.declared.contact.Contact.{Contact};
 ghost use Rattle.sabr_model.specs.plan.Plan.{has, most_records, most_light};
 ghost use Rattle.sabr_model.specs.plan.Table.{IsTableOf};
 ghost use Rattle.sabr_model.specs.plan.Known.{AreEnds, light_of_word};
@@ -61,15 +60,6 @@ impl<A: Allocator + Copy> Plan<A> {
         ensures { AreEnds self.now.table self.now.plan.contacts result.now }
     {
         &self.known
-    }
-
-    /// Returns the index of the receiver of the contact at an index.
-    #[inline(always)]
-    pub(super) fn receiver_at(&self, place: usize) -> usize
-        requires { place < length self.now.plan.contacts }
-        ensures { (d : Contact) → slice_get self.now.table result ≡ Some (slice_index_or self.now.plan.contacts place d).to }
-    {
-        self.known[place].to as usize
     }
 }
 

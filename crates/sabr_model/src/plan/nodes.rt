@@ -1,11 +1,12 @@
 //! The nodes of a plan, each by its index in the table, and the contacts that a node sends.
 
-ghost use Rattle.std.specs.Prelude.{◌≡◌, ◌<◌, ◌≤◌, ◌*◌, ℕ, Some, None, MatchOption, IsFalse, length, map, slice_get, slice_index, slice_index_or};
+ghost use Rattle.std.specs.Prelude.{◌≡◌, ◌<◌, ◌≤◌, ◌*◌, Some, None, MatchOption, IsFalse, length, map, slice_get, slice_index, slice_index_or};
 ghost use Rattle.sabr_model.specs.plan.Plan.{contact_named, has, most_records};
 ghost use Rattle.sabr_model.specs.plan.Table.{sent_by, node_count};
 ghost use Rattle.sabr_model.specs.plan.Tabled.{IsTabled, IsHopOf, IsHopNamed};
 
 use super::Plan;
+use super::contact_light::light_of_contact;
 use super::contacts_by_number::place_of_number;
 use crate::contact::Contact;
 use crate::hop::Hop;
@@ -78,11 +79,17 @@ impl<A: Allocator + Copy> Plan<A> {
         requires there { contact.now ≡ slice_index_or self.now.plan.contacts place contact.now }
         ensures { IsHopOf self.now contact.now result }
     {
+        let receiver = self.known[place].to as usize;
+        let light = if self.lit {
+            self.known[place].light_time()
+        } else {
+            light_of_contact(&self.ranges, contact)
+        };
         Hop {
             start: contact.start,
             end: contact.end,
-            receiver: self.receiver_at(place),
-            light: self.light_at(place, contact),
+            receiver,
+            light,
         }
     }
 }
