@@ -8,386 +8,86 @@ use Rattle.sabr_model.specs.Rows.{from_1_to_3, from_1_to_3_at, within_hops, avoi
 
 pub obeys-a : IsPlan plan_a
 unfolding IsStrictlySortedBy
-obeys-a =
-    record {
-      contact_windows = search rules;
-      contact_nodes = search rules;
-      numbers_rise = refl;
-      numbers_given = search rules;
-      openings_differ = refl;
-      range_windows = search rules;
-      range_nodes = search rules;
-      rates = search rules;
-      ranges_rise = search rules;
-      lights = search rules;
-      ranges_apart = refl;
-      count = omega arith;
-      range_count = omega arith;
-    }
+obeys-a = search rules
 
 pub obeys-b : IsPlan plan_b
 unfolding IsStrictlySortedBy
-obeys-b =
-    record {
-      contact_windows = search rules;
-      contact_nodes = search rules;
-      numbers_rise = refl;
-      numbers_given = search rules;
-      openings_differ = refl;
-      range_windows = search rules;
-      range_nodes = search rules;
-      rates = search rules;
-      ranges_rise = search rules;
-      lights = search rules;
-      ranges_apart = refl;
-      count = omega arith;
-      range_count = omega arith;
-    }
+obeys-b = search rules
 
 pub obeys-c : IsPlan plan_c
 unfolding IsStrictlySortedBy
-obeys-c =
-    record {
-      contact_windows = search rules;
-      contact_nodes = search rules;
-      numbers_rise = refl;
-      numbers_given = search rules;
-      openings_differ = refl;
-      range_windows = search rules;
-      range_nodes = search rules;
-      rates = search rules;
-      ranges_rise = search rules;
-      lights = search rules;
-      ranges_apart = refl;
-      count = omega arith;
-      range_count = omega arith;
-    }
+obeys-c = search rules
 
 pub obeys-and_back : IsPlan plan_b_and_back
 unfolding IsStrictlySortedBy
-obeys-and_back =
-    record {
-      contact_windows = search rules;
-      contact_nodes = search rules;
-      numbers_rise = refl;
-      numbers_given = search rules;
-      openings_differ = refl;
-      range_windows = search rules;
-      range_nodes = search rules;
-      rates = search rules;
-      ranges_rise = search rules;
-      lights = search rules;
-      ranges_apart = refl;
-      count = omega arith;
-      range_count = omega arith;
-    }
+obeys-and_back = search rules
 
 pub obeys-and_across : IsPlan plan_b_and_across
 unfolding IsStrictlySortedBy
-obeys-and_across =
-    record {
-      contact_windows = search rules;
-      contact_nodes = search rules;
-      numbers_rise = refl;
-      numbers_given = search rules;
-      openings_differ = refl;
-      range_windows = search rules;
-      range_nodes = search rules;
-      rates = search rules;
-      ranges_rise = search rules;
-      lights = search rules;
-      ranges_apart = refl;
-      count = omega arith;
-      range_count = omega arith;
-    }
+obeys-and_across = search rules
 
 pub obeys-ending_10 : IsPlan (plan_ending 10)
 unfolding IsStrictlySortedBy
-obeys-ending_10 =
-    record {
-      contact_windows = search rules;
-      contact_nodes = search rules;
-      numbers_rise = refl;
-      numbers_given = search rules;
-      openings_differ = refl;
-      range_windows = search rules;
-      range_nodes = search rules;
-      rates = search rules;
-      ranges_rise = search rules;
-      lights = search rules;
-      ranges_apart = refl;
-      count = omega arith;
-      range_count = omega arith;
-    }
+obeys-ending_10 = search rules
 
 pub obeys-ending_11 : IsPlan (plan_ending 11)
 unfolding IsStrictlySortedBy
-obeys-ending_11 =
-    record {
-      contact_windows = search rules;
-      contact_nodes = search rules;
-      numbers_rise = refl;
-      numbers_given = search rules;
-      openings_differ = refl;
-      range_windows = search rules;
-      range_nodes = search rules;
-      rates = search rules;
-      ranges_rise = search rules;
-      lights = search rules;
-      ranges_apart = refl;
-      count = omega arith;
-      range_count = omega arith;
-    }
+obeys-ending_11 = search rules
 
 pub obeys-dark : IsPlan plan_dark
 unfolding IsStrictlySortedBy
-obeys-dark =
-    record {
-      contact_windows = search rules;
-      contact_nodes = search rules;
-      numbers_rise = refl;
-      numbers_given = search rules;
-      openings_differ = refl;
-      range_windows = search rules;
-      range_nodes = search rules;
-      rates = search rules;
-      ranges_rise = search rules;
-      lights = search rules;
-      ranges_apart = refl;
-      count = omega arith;
-      range_count = omega arith;
-    }
+obeys-dark = search rules
 
 pub obeys-last : IsPlan plan_last
 unfolding IsStrictlySortedBy
-obeys-last =
-    record {
-      contact_windows = search rules;
-      contact_nodes = search rules;
-      numbers_rise = refl;
-      numbers_given = search rules;
-      openings_differ = refl;
-      range_windows = search rules;
-      range_nodes = search rules;
-      rates = search rules;
-      ranges_rise = search rules;
-      lights = search rules;
-      ranges_apart = refl;
-      count = omega arith;
-      range_count = omega arith;
-    }
+obeys-last = search rules
 
 pub obeys-less : IsPlan plan_a_less
 unfolding IsStrictlySortedBy
-obeys-less =
-    record {
-      contact_windows = search rules;
-      contact_nodes = search rules;
-      numbers_rise = refl;
-      numbers_given = search rules;
-      openings_differ = refl;
-      range_windows = search rules;
-      range_nodes = search rules;
-      rates = search rules;
-      ranges_rise = search rules;
-      lights = search rules;
-      ranges_apart = refl;
-      count = omega arith;
-      range_count = omega arith;
-    }
+obeys-less = search rules
 
 pub obeys-again : IsPlan plan_a_again
 unfolding IsStrictlySortedBy
-obeys-again =
-    record {
-      contact_windows = search rules;
-      contact_nodes = search rules;
-      numbers_rise = refl;
-      numbers_given = search rules;
-      openings_differ = refl;
-      range_windows = search rules;
-      range_nodes = search rules;
-      rates = search rules;
-      ranges_rise = search rules;
-      lights = search rules;
-      ranges_apart = refl;
-      count = omega arith;
-      range_count = omega arith;
-    }
+obeys-again = search rules
 
 pub obeys-darker : IsPlan plan_a_darker
 unfolding IsStrictlySortedBy
-obeys-darker =
-    record {
-      contact_windows = search rules;
-      contact_nodes = search rules;
-      numbers_rise = refl;
-      numbers_given = search rules;
-      openings_differ = refl;
-      range_windows = search rules;
-      range_nodes = search rules;
-      rates = search rules;
-      ranges_rise = search rules;
-      lights = search rules;
-      ranges_apart = refl;
-      count = omega arith;
-      range_count = omega arith;
-    }
+obeys-darker = search rules
 
 pub obeys-as_before : IsPlan plan_a_as_before
 unfolding IsStrictlySortedBy
-obeys-as_before =
-    record {
-      contact_windows = search rules;
-      contact_nodes = search rules;
-      numbers_rise = refl;
-      numbers_given = search rules;
-      openings_differ = refl;
-      range_windows = search rules;
-      range_nodes = search rules;
-      rates = search rules;
-      ranges_rise = search rules;
-      lights = search rules;
-      ranges_apart = refl;
-      count = omega arith;
-      range_count = omega arith;
-    }
+obeys-as_before = search rules
 
 pub obeys-there_and_back : IsPlan (plan_there_and_back (range_of 1 2 10 ∷ range_of 2 1 30 ∷ []))
 unfolding IsStrictlySortedBy
-obeys-there_and_back =
-    record {
-      contact_windows = search rules;
-      contact_nodes = search rules;
-      numbers_rise = refl;
-      numbers_given = search rules;
-      openings_differ = refl;
-      range_windows = search rules;
-      range_nodes = search rules;
-      rates = search rules;
-      ranges_rise = search rules;
-      lights = search rules;
-      ranges_apart = refl;
-      count = omega arith;
-      range_count = omega arith;
-    }
+obeys-there_and_back = search rules
 
 pub asks-plain : IsRequest from_1_to_3
-asks-plain =
-    record {
-      source = search rules;
-      destination = search rules;
-      apart = search rules;
-      time = omega arith;
-      margin = omega arith;
-      hops = search rules;
-      avoids = refl;
-      nodes = search rules;
-    }
+asks-plain = search rules
 
 pub asks-at_60 : IsRequest (from_1_to_3_at 60)
-asks-at_60 =
-    record {
-      source = search rules;
-      destination = search rules;
-      apart = search rules;
-      time = omega arith;
-      margin = omega arith;
-      hops = search rules;
-      avoids = refl;
-      nodes = search rules;
-    }
+asks-at_60 = search rules
 
 pub asks-at_100 : IsRequest (from_1_to_3_at 100)
-asks-at_100 =
-    record {
-      source = search rules;
-      destination = search rules;
-      apart = search rules;
-      time = omega arith;
-      margin = omega arith;
-      hops = search rules;
-      avoids = refl;
-      nodes = search rules;
-    }
+asks-at_100 = search rules
 
 pub asks-one_hop : IsRequest (within_hops 1)
-asks-one_hop =
-    record {
-      source = search rules;
-      destination = search rules;
-      apart = search rules;
-      time = omega arith;
-      margin = omega arith;
-      hops = search rules;
-      avoids = refl;
-      nodes = search rules;
-    }
+asks-one_hop = search rules
 
 pub asks-two_hops : IsRequest (within_hops 2)
-asks-two_hops =
-    record {
-      source = search rules;
-      destination = search rules;
-      apart = search rules;
-      time = omega arith;
-      margin = omega arith;
-      hops = search rules;
-      avoids = refl;
-      nodes = search rules;
-    }
+asks-two_hops = search rules
 
 pub asks-without_2 : IsRequest (avoiding (2 ∷ []))
-asks-without_2 =
-    record {
-      source = search rules;
-      destination = search rules;
-      apart = search rules;
-      time = omega arith;
-      margin = omega arith;
-      hops = search rules;
-      avoids = refl;
-      nodes = search rules;
-    }
+asks-without_2 = search rules
 
 pub asks-without_4 : IsRequest (avoiding (4 ∷ []))
-asks-without_4 =
-    record {
-      source = search rules;
-      destination = search rules;
-      apart = search rules;
-      time = omega arith;
-      margin = omega arith;
-      hops = search rules;
-      avoids = refl;
-      nodes = search rules;
-    }
+asks-without_4 = search rules
 
 pub asks-to_2 : IsRequest (from_1_to_2_at 50)
-asks-to_2 =
-    record {
-      source = search rules;
-      destination = search rules;
-      apart = search rules;
-      time = omega arith;
-      margin = omega arith;
-      hops = search rules;
-      avoids = refl;
-      nodes = search rules;
-    }
+asks-to_2 = search rules
 
 pub asks-last_day : IsRequest on_the_last_day
-asks-last_day =
-    record {
-      source = search rules;
-      destination = search rules;
-      apart = search rules;
-      time = omega arith;
-      margin = omega arith;
-      hops = search rules;
-      avoids = refl;
-      nodes = search rules;
-    }
+asks-last_day = search rules
 
 -- for the rows
 pub ruleset worked_plans = (obeys-a, obeys-b, obeys-c, obeys-and_back, obeys-and_across, obeys-ending_10, obeys-ending_11, obeys-dark, obeys-last, obeys-less, obeys-again, obeys-darker, obeys-as_before, obeys-there_and_back)
