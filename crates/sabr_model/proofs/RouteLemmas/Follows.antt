@@ -61,13 +61,6 @@ any_at test s i lt = rw (drop-cons s i 0, add-one) refl
 pub received_behind : (p : ContactPlan) (node : ℕ) (s : List ℕ) (i : ℕ) → i < length s → has node (receivers p s) ≡ list_any (receives p node) (drop i s) → receives p node (get_or s i 0) ≡ false → has node (receivers p s) ≡ list_any (receives p node) (drop (i + 1) s)
 received_behind p node s i lt e h = e ∙ any_at (receives p node) s i lt ∙ ap (λ b. b || list_any (receives p node) (drop (i + 1) s)) h
 
--- the first fault after a hop without one
-pub first_fault_on : (p : ContactPlan) (r : RouteRequest) (s : List ℕ) (i : ℕ) → i < length s → fault_at p r (take i s) (get_or s i 0) ≡ None → first_fault p r (take i s) (drop i s) ≡ first_fault p r (take (i + 1) s) (drop (i + 1) s)
-first_fault_on p r s i lt none =
-    let behind : drop i s ≡ get_or s i 0 ∷ drop (i + 1) s = rw (drop-cons s i 0, add-one) refl in
-    ap (first_fault p r (take i s)) behind ∙ ap (λ o. fault_or o (first_fault p r (take i s ++ get_or s i 0 ∷ []) (drop (i + 1) s))) none
-    ∙ ap (λ q. first_fault p r q (drop (i + 1) s)) (sym (take_more s i 0 lt))
-
 -- the first fault of two lists, one after the other
 first_fault-append : (p : ContactPlan) (r : RouteRequest) (q s t : List ℕ) → first_fault p r q (s ++ t) ≡ fault_or (first_fault p r q s) (first_fault p r (q ++ s) t)
 first_fault-append p r q [] t = ap (λ u. first_fault p r u t) (sym (append-nil q))
@@ -76,12 +69,6 @@ first_fault-append p r q (n ∷ s) t =
       | Some f ↦ refl
       | None ↦ first_fault-append p r (q ++ n ∷ []) s t ∙ ap (λ u. fault_or (first_fault p r (q ++ n ∷ []) s) (first_fault p r u t)) (append_assoc q (n ∷ []) s)
     ]
-
--- if all contacts were followed, the list is a path
-pub all_followed : (p : ContactPlan) (r : RouteRequest) (s : List ℕ) (i : ℕ) (here : Reached) → length s ≤ i → first_fault p r [] s ≡ first_fault p r (take i s) (drop i s) → IsReachedBy p r (take i s) here → IsTrue (is_path p r s) × IsReachedBy p r s here
-all_followed p r s i here over none reached =
-    let good : first_fault p r [] s ≡ None = none ∙ ap (first_fault p r (take i s)) (drop_all i s over) in
-    (good_is_path p r [] s (empty_is_path p r) good, subst (λ t. IsReachedBy p r t here) (take_all i s over) reached)
 
 pub some_behind : (s : List ℕ) (n : ℕ) → 0 < length (s ++ n ∷ [])
 some_behind [] n = omega arith
@@ -94,10 +81,6 @@ fault_of_some p r (n ∷ s) some = refl
 
 fault_on_the_way : (p : ContactPlan) (r : RouteRequest) (s : List ℕ) (f : HopFault) → 0 < length s → first_fault p r [] s ≡ Some f → fault_of p r s ≡ Some f
 fault_on_the_way p r s f some fault = fault_of_some p r s some ∙ ap (λ o. fault_or o (cond (ends_at p r s) None (Some WrongEnd))) fault
-
--- a fault of the front is the fault of the list
-pub fault_in_front : (p : ContactPlan) (r : RouteRequest) (s : List ℕ) (n : ℕ) (f : HopFault) → first_fault p r [] s ≡ Some f → fault_of p r (s ++ n ∷ []) ≡ Some f
-fault_in_front p r s n f fault = fault_on_the_way p r (s ++ n ∷ []) f (some_behind s n) (first_fault-append p r [] s (n ∷ []) ∙ ap (λ o. fault_or o (first_fault p r s (n ∷ []))) fault)
 
 -- a path to a node other than the destination has a wrong end
 pub ends_elsewhere : (p : ContactPlan) (r : RouteRequest) (s : List ℕ) (here : Reached) → 0 < length s → IsTrue (is_path p r s) → IsReachedBy p r s here → (here.node ≡ r.destination → ⊥) → fault_of p r s ≡ Some WrongEnd
@@ -115,9 +98,6 @@ ends_there p r s here some path reached same = route_from_path p r s path some (
 pub first_fault_behind : (p : ContactPlan) (r : RouteRequest) (s : List ℕ) (n : ℕ) (f : HopFault) → IsTrue (is_path p r s) → fault_at p r s n ≡ Some f → first_fault p r [] (s ++ n ∷ []) ≡ Some f
 first_fault_behind p r s n f path fault =
     first_fault-append p r [] s (n ∷ []) ∙ ap (λ o. fault_or o (first_fault p r s (n ∷ []))) (path_is_good p r [] s path) ∙ ap (λ o. fault_or o None) fault
-
-pub fault_behind : (p : ContactPlan) (r : RouteRequest) (s : List ℕ) (n : ℕ) (f : HopFault) → IsTrue (is_path p r s) → fault_at p r s n ≡ Some f → fault_of p r (s ++ n ∷ []) ≡ Some f
-fault_behind p r s n f path fault = fault_on_the_way p r (s ++ n ∷ []) f (some_behind s n) (first_fault_behind p r s n f path fault)
 
 pub path_behind : (p : ContactPlan) (r : RouteRequest) (s : List ℕ) (n : ℕ) → IsTrue (is_path p r s) → fault_at p r s n ≡ None → IsTrue (is_path p r (s ++ n ∷ []))
 path_behind p r s n path good = path_push p r s n path (good_is_hop p r s n path good)
