@@ -3,6 +3,7 @@ use Rattle.std.proofs.lemmas.Bool.{and_parts, or_cases, or_right, or_left, eq-eq
 use Rattle.std.proofs.lemmas.List.Elements.{filter_map-append}
 use Rattle.std.proofs.lemmas.List.{map-append}
 use Rattle.std.proofs.lemmas.List.Folds.{list_any-append}
+use Rattle.sabr_model.proofs.ListLemmas.Answered.{had_value, passed}
 use Rattle.sabr_model.proofs.RouteLemmas.Routes.{route_facts}
 use Rattle.std.specs.Option.{option_and_then}
 use Rattle.std.specs.declared.option.Option.TheVariants.{Some, None}
@@ -31,13 +32,9 @@ pub record FirstHop (p : ContactPlan) (a n : ℕ) (s : List ℕ) (b : ℕ) : Typ
 
 pub first_hop : (p : ContactPlan) (a n : ℕ) (s : List ℕ) (b : ℕ) → chain_end p a (n ∷ s) ≡ Some b → FirstHop p a n s b
 first_hop p a n s b e =
-    elim (contact_named p n) as (λ o. contact_named p n ≡ o → option_and_then (λ c. cond (eqb c.from a) (chain_end p c.to s) None) o ≡ Some b → FirstHop p a n s b) [
-      | None ↦ λ q h. absurd cc
-      | Some c ↦ λ q h. elim (eqb c.from a) as (λ t. eqb c.from a ≡ t → cond t (chain_end p c.to s) None ≡ Some b → FirstHop p a n s b) [
-        | true ↦ λ w g. record { contact = c; named = q; sent = eqb-true c.from a w; rest = g }
-        | false ↦ λ w g. absurd cc
-      ] refl h
-    ] refl e
+    let first = had_value (λ (c : Contact). cond (eqb c.from a) (chain_end p c.to s) None) (contact_named p n) b e in
+    let onward = passed (eqb first.0.from a) (chain_end p first.0.to s) b first.2 in
+    record { contact = first.0; named = first.1; sent = eqb-true first.0.from a onward.0; rest = onward.1 }
 
 pub receivers-cons : (p : ContactPlan) (n : ℕ) (s : List ℕ) (c : Contact) → contact_named p n ≡ Some c → receivers p (n ∷ s) ≡ c.to ∷ receivers p s
 receivers-cons p n s c e = ap (λ o. map (λ (d : Contact). d.to) (Rattle.std.specs.List.cons_option o (contacts_of p s))) e

@@ -1,11 +1,12 @@
 -- Numbers that differ, in parts of lists and in joined lists.
-use Rattle.std.proofs.Common.{◌≡◌, ℕ, zero, suc, ◌+◌, ◌-◌, ◌<◌, ◌≤◌, true, false, not, ◌||◌, eqb, List, [], ◌∷◌, ◌++◌, length, get_or, take, drop, refl, sym, ap, subst, ◌∙◌, inl, inr, arith, length-drop}
+use Rattle.std.proofs.Common.{◌≡◌, ℕ, zero, suc, ◌+◌, ◌-◌, ◌<◌, ◌≤◌, true, false, not, ◌||◌, eqb, List, [], ◌∷◌, ◌++◌, length, get_or, take, drop, refl, sym, ap, subst, ◌∙◌, arith, length-drop}
 use Rattle.std.specs.Prelude.{slice_get, Some}
-use Rattle.std.proofs.lemmas.Bool.{and_parts, and_from, or_cases, or_left, or_right, eqb-true, eq-eqb, not-true, not_from_false, both_ways, false_from_ne_true}
+use Rattle.std.proofs.lemmas.Bool.{and_parts, and_from, or_left, or_right, eq-eqb, not-true, not_from_false, both_ways, false_from_ne_true}
 use Rattle.std.proofs.lemmas.List.{get_or-drop, get_or-take, length-take, take-append-drop}
 use Rattle.std.proofs.lemmas.List.Folds.{list_any-append}
 use Rattle.std.proofs.lemmas.Option.{slice_get_within, slice_get-get_or, get_or_from_slice_get}
 use Rattle.sabr_model.specs.plan.Plan.{has, are_different}
+use Rattle.sabr_model.proofs.ListLemmas.Begins.{different_apart}
 
 -- ---- joined lists
 
@@ -30,16 +31,7 @@ different_front (x ∷ xs) ys d =
 
 -- its last number occurs nowhere else
 pub different_last : (xs : List ℕ) (n : ℕ) → are_different (xs ++ n ∷ []) ≡ true → has n xs ≡ true → ⊥
-different_last [] n d h = absurd cc
-different_last (x ∷ xs) n d h =
-    let p = and_parts (not (has x (xs ++ n ∷ []))) (are_different (xs ++ n ∷ [])) d in
-    elim (or_cases (eqb n x) (has n xs) h) [
-      | inl here ↦
-          let same : n ≡ x = eqb-true n x here in
-          let there : has x (xs ++ n ∷ []) ≡ true = list_any-append (eqb x) xs (n ∷ []) ∙ or_right (has x xs) (has x (n ∷ [])) (or_left (eqb x n) false (eq-eqb x n (sym same))) in
-          both_ways (has x (xs ++ n ∷ [])) (not-true (has x (xs ++ n ∷ [])) p.0) there
-      | inr later ↦ different_last xs n p.1 later
-    ]
+different_last xs n d h = different_apart xs (n ∷ []) n d h (or_left (eqb n n) false (eq-eqb n n refl))
 
 -- fewer of different numbers are different
 pub different_drop : (k : ℕ) (xs : List ℕ) → are_different xs ≡ true → are_different (drop k xs) ≡ true

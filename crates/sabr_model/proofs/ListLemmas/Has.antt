@@ -1,17 +1,14 @@
 -- Membership in lists of numbers, and lists of different numbers.
-use Rattle.std.proofs.Common.{◌≡◌, ℕ, ◌<◌, true, false, cond, not, eqb, List, [], ◌∷◌, length, get_or, refl, sym, ap, ◌∙◌, inl, inr}
+use Rattle.std.proofs.Common.{◌≡◌, ℕ, ◌<◌, true, false, cond, not, eqb, List, [], ◌∷◌, length, get_or, refl, ap, ◌∙◌, arith}
 use Rattle.std.specs.List.{filter}
-use Rattle.std.proofs.lemmas.Bool.{or_parts, eqb-true, eq-eqb, both_ways, false_from_ne_true, cases_Bool}
+use Rattle.std.proofs.lemmas.Bool.{or_parts, eq-eqb}
+use Rattle.std.proofs.lemmas.Bool.Decides.{nat_tests}
 use Rattle.std.proofs.lemmas.List.Folds.{list_any_at}
 use Rattle.sabr_model.specs.plan.Plan.{has}
 
 -- equality of numbers is symmetric
 pub eqb_flip : (a b : ℕ) → eqb a b ≡ eqb b a
-eqb_flip a b =
-    elim (cases_Bool (eqb a b)) [
-      | inl t ↦ t ∙ sym (eq-eqb b a (sym (eqb-true a b t)))
-      | inr f ↦ f ∙ sym (false_from_ne_true (eqb b a) (λ t. both_ways (eqb a b) f (eq-eqb a b (sym (eqb-true b a t)))))
-    ]
+eqb_flip a b = grind (arith, nat_tests)
 
 -- the number at a place is in the list
 pub has_at : (xs : List ℕ) (k d : ℕ) → k < length xs → has (get_or xs k d) xs ≡ true

@@ -1,21 +1,22 @@
 -- A plan with one more contact that is not refused is a plan.
-use Rattle.std.proofs.Common.{◌≡◌, ℕ, ◌<◌, ◌≤◌, ◌^◌, Bool, true, false, cond, ◌&&◌, ◌||◌, not, eqb, ltb, leb, List, [], ◌∷◌, ◌++◌, map, refl, ap, ◌∙◌, arith}
+use Rattle.std.proofs.Common.{◌≡◌, ℕ, ◌<◌, ◌≤◌, ◌^◌, Bool, true, false, cond, ◌&&◌, ◌||◌, not, eqb, ltb, leb, List, [], ◌∷◌, ◌++◌, map, refl, ◌∙◌, arith, rules}
+use Rattle.sabr_model.proofs.ListLemmas.Answered.{unfailed}
 use Rattle.sabr_model.proofs.ListLemmas.Ordered.{all_weaker}
 use Rattle.std.specs.List.{AllByRecursion, list_any}
 use Rattle.std.specs.List.Sorted.{IsStrictlySortedBy}
 use Rattle.std.proofs.lemmas.Bool.{and_parts, and_from, or_parts, or_from, not-true, not_from_false, lt-ltb, leb-false, eqb-false}
+use Rattle.std.proofs.lemmas.Bool.Decides.{nat_tests}
+use Rattle.std.proofs.lemmas.List.Elements.{All-from_recursion, All-push, recursion_from_All}
 use Rattle.std.proofs.lemmas.List.Folds.{list_any-append}
 use Rattle.std.specs.declared.option.Option.TheVariants.{Some, None}
 use Rattle.sabr_model.specs.declared.contact.Contact.{Contact}
 use Rattle.sabr_model.specs.declared.fault.AddFault.TheVariants.{EmptyWindow, SelfPair, DuplicateContact, TooMany}
 use Rattle.sabr_model.specs.plan.Plan.{ContactPlan, IsPlan, IsWindow, IsNode, IsPair, rises_above, opens, same_opening, none_twice, last_time}
-use Rattle.sabr_model.proofs.ListLemmas.Has.{eqb_flip}
 use Rattle.sabr_model.specs.plan.Adding.{next_contact, contact_refusal, with_contact}
 
 -- what holds for all elements and for one more
 pub all_push : {X : Type 0} (P : X → Type 0) (xs : List X) (x : X) → AllByRecursion P xs → P x → AllByRecursion P (xs ++ x ∷ [])
-all_push P [] x all one = (one, tt)
-all_push P (y ∷ ys) x all one = (all.0, all_push P ys x all.1 one)
+all_push P xs x all one = recursion_from_All P (xs ++ x ∷ []) (All-push P xs x (All-from_recursion P xs all) one)
 
 -- rising numbers with a greater one after them rise
 rises_push : (low : ℕ) (cs : List Contact) (c : Contact) → rises_above low (map (λ d. d.number) cs) ≡ true → AllByRecursion (λ d. d.number < c.number) cs → low < c.number
@@ -27,10 +28,7 @@ rises_push low (d ∷ cs) c rises all lt =
 
 -- having the same opening is symmetric
 opening_flip : (c d : Contact) → same_opening c d ≡ same_opening d c
-opening_flip c d =
-    ap (λ b. b && eqb c.to d.to && eqb c.start d.start) (eqb_flip c.from d.from)
-    ∙ ap (λ b. eqb d.from c.from && b && eqb c.start d.start) (eqb_flip c.to d.to)
-    ∙ ap (λ b. eqb d.from c.from && eqb d.to c.to && b) (eqb_flip c.start d.start)
+opening_flip c d = grind (arith, nat_tests)
 
 -- if no two elements pass a test, no two do after adding one that passes with none
 none_twice-push : {X : Type 0} (same : X → X → Bool) → ((x y : X) → same x y ≡ same y x) → (xs : List X) (x : X) → none_twice same xs ≡ true → list_any (same x) xs ≡ false → none_twice same (xs ++ x ∷ []) ≡ true
@@ -48,19 +46,14 @@ pub record IsAccepted (p : ContactPlan) (from to start end : ℕ) : Type 0 where
   pub new : list_any (opens from to start) p.contacts ≡ false
   pub room : p.largest < 20000
 
--- if there is no refusal, each test failed
-choice : (a b c d : Bool) → cond a (Some EmptyWindow) (cond b (Some SelfPair) (cond c (Some DuplicateContact) (cond d (Some TooMany) None))) ≡ None → (a ≡ false) × (b ≡ false) × (c ≡ false) × (d ≡ false)
-choice true b c d e = absurd cc
-choice false true c d e = absurd cc
-choice false false true d e = absurd cc
-choice false false false true e = absurd cc
-choice false false false false e = (refl, refl, refl, refl)
-
 -- a contact that is not refused has these facts
 pub accepted : (p : ContactPlan) (from to start end : ℕ) → contact_refusal p from to start end ≡ None → IsAccepted p from to start end
 accepted p from to start end e =
-    let parts = choice (leb end start) (eqb from to) (list_any (opens from to start) p.contacts) (leb 20000 p.largest) e in
-    record { window = leb-false end start parts.0; apart = parts.1; new = parts.2; room = leb-false 20000 p.largest parts.3 }
+    let a = unfailed (leb end start) EmptyWindow _ e in
+    let b = unfailed (eqb from to) SelfPair _ a.1 in
+    let c = unfailed (list_any (opens from to start) p.contacts) DuplicateContact _ b.1 in
+    let d = unfailed (leb 20000 p.largest) TooMany None c.1 in
+    record { window = leb-false end start a.0; apart = b.0; new = c.0; room = leb-false 20000 p.largest d.0 }
 
 -- a plan with one more contact that is not refused is a plan
 pub IsPlan-push : (p : ContactPlan) (from to start end rate : ℕ) → IsPlan p → IsNode from → IsNode to → rate < 2 ^ 64 → end ≤ last_time → contact_refusal p from to start end ≡ None
@@ -87,19 +80,4 @@ IsPlan-push p from to start end rate h hf ht hr he accept =
 -- the empty plan is a plan
 pub IsPlan-empty : IsPlan (record { contacts = []; ranges = []; largest = 0 })
 unfolding IsStrictlySortedBy
-IsPlan-empty =
-    record {
-      contact_windows = tt;
-      contact_nodes = tt;
-      rates = tt;
-      ranges_rise = tt;
-      numbers_rise = refl;
-      numbers_given = tt;
-      openings_differ = refl;
-      range_windows = tt;
-      range_nodes = tt;
-      lights = tt;
-      ranges_apart = refl;
-      count = omega arith;
-      range_count = omega arith;
-    }
+IsPlan-empty = search rules

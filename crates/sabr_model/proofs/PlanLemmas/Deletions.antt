@@ -1,9 +1,11 @@
 -- A plan without some of its contacts or ranges is a plan.
 use Rattle.std.proofs.Common.{◌≡◌, ℕ, ◌<◌, ◌≤◌, ◌^◌, Bool, true, false, cond, ◌&&◌, not, eqb, ltb, List, [], ◌∷◌, length, map, refl, sym, ap, subst, ◌∙◌, arith}
+use Rattle.sabr_model.proofs.ListLemmas.Members.{all_in, find_in}
 use Rattle.sabr_model.proofs.ListLemmas.Ordered.{all_weaker}
 use Rattle.std.specs.List.{filter, find, list_any, AllByRecursion}
 use Rattle.std.specs.List.Sorted.{IsStrictlySortedBy}
-use Rattle.std.proofs.lemmas.Bool.{and_parts, and_from, or_parts, or_from, not-true, not_from_false, eqb-true, eq-eqb, ne_eqb, lt-ltb, ltb-true, both_ways}
+use Rattle.std.proofs.lemmas.Bool.{and_parts, and_from, or_parts, or_from, not-true, not_from_false, eqb-true, eq-eqb, ne_eqb, lt-ltb, ltb-true, both_ways, cond_both}
+use Rattle.std.proofs.lemmas.List.Elements.{All-filter, All-from_recursion, recursion_from_All}
 use Rattle.std.specs.declared.option.Option.TheVariants.{Some}
 use Rattle.std.specs.declared.cmp.Ordering.TheVariants.{Less}
 use Rattle.sabr_model.specs.declared.contact.Contact.{Contact}
@@ -15,31 +17,25 @@ use Rattle.sabr_model.proofs.PlanLemmas.Without.{all_above, is_one}
 
 module _ {X : Type 0} where
   pub all_filter : (P : X → Type 0) (t : X → Bool) (xs : List X) → AllByRecursion P xs → AllByRecursion P (filter t xs)
-  all_filter P t [] all = tt
-  all_filter P t (x ∷ xs) all =
-      elim (t x) as (λ b. AllByRecursion P (cond b (x ∷ filter t xs) (filter t xs))) [ true ↦ (all.0, all_filter P t xs all.1) | false ↦ all_filter P t xs all.1 ]
+  all_filter P t xs all = recursion_from_All P (filter t xs) (All-filter t P xs (All-from_recursion P xs all))
 
   -- if no element passes a test, none of a filtered list does
   pub any_filter : (p t : X → Bool) (xs : List X) → list_any p xs ≡ false → list_any p (filter t xs) ≡ false
   any_filter p t [] none = refl
   any_filter p t (x ∷ xs) none =
       let parts = or_parts (p x) (list_any p xs) none in
-      elim (t x) as (λ b. list_any p (cond b (x ∷ filter t xs) (filter t xs)) ≡ false) [
-        | true ↦ or_from (p x) (list_any p (filter t xs)) parts.0 (any_filter p t xs parts.1)
-        | false ↦ any_filter p t xs parts.1
-      ]
+      let rest = any_filter p t xs parts.1 in
+      cond_both (t x) (x ∷ filter t xs) (filter t xs) (λ ys. list_any p ys ≡ false) (λ _. or_from (p x) (list_any p (filter t xs)) parts.0 rest) (λ _. rest)
 
   -- if no two elements pass a test, no two of a filtered list do
   pub none_twice-filter : (same : X → X → Bool) (t : X → Bool) (xs : List X) → none_twice same xs ≡ true → none_twice same (filter t xs) ≡ true
   none_twice-filter same t [] none = refl
   none_twice-filter same t (x ∷ xs) none =
       let parts = and_parts (not (list_any (same x) xs)) (none_twice same xs) none in
-      elim (t x) as (λ b. none_twice same (cond b (x ∷ filter t xs) (filter t xs)) ≡ true) [
-        | true ↦ and_from (not (list_any (same x) (filter t xs))) (none_twice same (filter t xs))
-            (not_from_false (list_any (same x) (filter t xs)) (any_filter (same x) t xs (not-true (list_any (same x) xs) parts.0)))
-            (none_twice-filter same t xs parts.1)
-        | false ↦ none_twice-filter same t xs parts.1
-      ]
+      let rest = none_twice-filter same t xs parts.1 in
+      cond_both (t x) (x ∷ filter t xs) (filter t xs) (λ ys. none_twice same ys ≡ true)
+      (λ _. and_from (not (list_any (same x) (filter t xs))) (none_twice same (filter t xs)) (not_from_false (list_any (same x) (filter t xs)) (any_filter (same x) t xs (not-true (list_any (same x) xs) parts.0))) rest)
+      (λ _. rest)
 
   -- a filter adds nothing
   pub length-filter_le : (t : X → Bool) (xs : List X) → length (filter t xs) ≤ length xs
@@ -50,21 +46,11 @@ module _ {X : Type 0} where
 
   -- what holds for all elements holds for the one that is found
   pub all_found : (P : X → Type 0) (t : X → Bool) (xs : List X) (x : X) → AllByRecursion P xs → find t xs ≡ Some x → P x
-  all_found P t [] x all found = absurd cc
-  all_found P t (y ∷ ys) x all found =
-      elim (t y) as (λ b. cond b (Some y) (find t ys) ≡ Some x → P x) [
-        | true ↦ λ e. let same : y ≡ x = cc in subst P same all.0
-        | false ↦ λ e. all_found P t ys x all.1 e
-      ] found
+  all_found P t xs x all found = all_in P xs all x (find_in t xs x found).0
 
   -- the element that is found passes the test
   pub found_passes : (t : X → Bool) (xs : List X) (x : X) → find t xs ≡ Some x → t x ≡ true
-  found_passes t [] x found = absurd cc
-  found_passes t (y ∷ ys) x found =
-      elim (t y) as (λ b. t y ≡ b → cond b (Some y) (find t ys) ≡ Some x → t x ≡ true) [
-        | true ↦ λ h e. let same : y ≡ x = cc in subst (λ z. t z ≡ true) same h
-        | false ↦ λ h e. found_passes t ys x e
-      ] refl found
+  found_passes t xs x found = (find_in t xs x found).1
 
   -- if no element passes, each fails
   pub any_none : (p : X → Bool) (xs : List X) → list_any p xs ≡ false → AllByRecursion (λ x. p x ≡ false) xs
@@ -96,29 +82,24 @@ rises_filter low t [] rises = refl
 rises_filter low t (c ∷ cs) rises =
     let parts = and_parts (ltb low c.number) (rises_above c.number (map (λ d. d.number) cs)) rises in
     let rest = rises_filter c.number t cs parts.1 in
-    elim (t c) as (λ b. rises_above low (map (λ (d : Contact). d.number) (cond b (c ∷ filter t cs) (filter t cs))) ≡ true) [
-      | true ↦ and_from (ltb low c.number) (rises_above c.number (map (λ d. d.number) (filter t cs))) parts.0 rest
-      | false ↦ rises_weaker low c.number (map (λ d. d.number) (filter t cs)) (let lt = ltb-true low c.number parts.0 in omega (arith, lt)) rest
-    ]
+    cond_both (t c) (c ∷ filter t cs) (filter t cs) (λ (ds : List Contact). rises_above low (map (λ d. d.number) ds) ≡ true)
+    (λ _. and_from (ltb low c.number) (rises_above c.number (map (λ d. d.number) (filter t cs))) parts.0 rest)
+    (λ _. rises_weaker low c.number (map (λ d. d.number) (filter t cs)) (let lt = ltb-true low c.number parts.0 in omega (arith, lt)) rest)
 
 -- some of the keys above a key are above it
 keys_filter : (t : Range → Bool) (k : ℕ × ℕ × ℕ) (rs : List Range) → AllByRecursion (λ y. by_key k y ≡ Less) (map range_key rs) → AllByRecursion (λ y. by_key k y ≡ Less) (map range_key (filter t rs))
 keys_filter t k [] all = tt
 keys_filter t k (r ∷ rs) all =
-    elim (t r) as (λ b. AllByRecursion (λ y. by_key k y ≡ Less) (map range_key (cond b (r ∷ filter t rs) (filter t rs)))) [
-      | true ↦ (all.0, keys_filter t k rs all.1)
-      | false ↦ keys_filter t k rs all.1
-    ]
+    let rest = keys_filter t k rs all.1 in
+    cond_both (t r) (r ∷ filter t rs) (filter t rs) (λ ss. AllByRecursion (λ y. by_key k y ≡ Less) (map range_key ss)) (λ _. (all.0, rest)) (λ _. rest)
 
 -- some of sorted ranges are sorted
 sorted_filter : (t : Range → Bool) (rs : List Range) → IsStrictlySortedBy by_key (map range_key rs) → IsStrictlySortedBy by_key (map range_key (filter t rs))
 unfolding IsStrictlySortedBy
 sorted_filter t [] sorted = tt
 sorted_filter t (r ∷ rs) sorted =
-    elim (t r) as (λ b. IsStrictlySortedBy by_key (map range_key (cond b (r ∷ filter t rs) (filter t rs)))) [
-      | true ↦ (keys_filter t (range_key r) rs sorted.0, sorted_filter t rs sorted.1)
-      | false ↦ sorted_filter t rs sorted.1
-    ]
+    let rest = sorted_filter t rs sorted.1 in
+    cond_both (t r) (r ∷ filter t rs) (filter t rs) (λ ss. IsStrictlySortedBy by_key (map range_key ss)) (λ _. (keys_filter t (range_key r) rs sorted.0, rest)) (λ _. rest)
 
 -- a plan without some contacts is a plan
 pub IsPlan-fewer_contacts : (p : ContactPlan) (t : Contact → Bool) → IsPlan p → IsPlan (record { contacts = filter t p.contacts; ranges = p.ranges; largest = p.largest })

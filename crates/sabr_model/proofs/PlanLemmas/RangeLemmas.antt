@@ -4,6 +4,7 @@ use Rattle.std.specs.List.{insert, list_any, AllByRecursion}
 use Rattle.std.specs.List.Sorted.{IsStrictlySortedBy}
 use Rattle.std.proofs.lemmas.Bool.Decides.{nat_tests}
 use Rattle.std.proofs.lemmas.Bool.{and_parts, and_from, or_parts, or_from, not-true, not_from_false, leb-false, eqb-false}
+use Rattle.std.proofs.lemmas.List.Elements.{All-from_recursion, All-get_or}
 use Rattle.std.specs.declared.option.Option.TheVariants.{Some, None}
 use Rattle.std.specs.declared.cmp.Ordering.{Ordering}
 use Rattle.std.specs.declared.cmp.Ordering.TheVariants.{Less, Equal, Greater}
@@ -12,6 +13,7 @@ use Rattle.sabr_model.specs.declared.fault.AddFault.TheVariants.{EmptyWindow, Se
 use Rattle.sabr_model.specs.Order.{put_in, by_key}
 use Rattle.sabr_model.specs.plan.Plan.{ContactPlan, IsPlan, IsWindow, IsNode, IsPair, overlap, none_twice, range_key, last_time}
 use Rattle.sabr_model.specs.plan.Adding.{range_refusal, with_range, by_range_key}
+use Rattle.sabr_model.proofs.ListLemmas.Answered.{unfailed}
 use Rattle.sabr_model.proofs.ListLemmas.Ordered.{all_put, sorted_put}
 use Rattle.sabr_model.proofs.PlanLemmas.KeyOrder.{by_key_total}
 
@@ -22,19 +24,14 @@ pub record IsAcceptedRange (p : ContactPlan) (r : Range) : Type 0 where
   pub new : list_any (overlap r) p.ranges ≡ false
   pub room : length p.ranges < 20000
 
--- if there is no refusal, each test failed
-pub choice : (a b c d : Bool) → cond a (Some EmptyWindow) (cond b (Some SelfPair) (cond c (Some RangeOverlap) (cond d (Some TooMany) None))) ≡ None → (a ≡ false) × (b ≡ false) × (c ≡ false) × (d ≡ false)
-choice true b c d e = absurd cc
-choice false true c d e = absurd cc
-choice false false true d e = absurd cc
-choice false false false true e = absurd cc
-choice false false false false e = (refl, refl, refl, refl)
-
 -- a range that is not refused has these facts
 pub accepted_range : (p : ContactPlan) (r : Range) → range_refusal p r ≡ None → IsAcceptedRange p r
 accepted_range p r e =
-    let parts = choice (leb r.end r.start) (eqb r.one r.other) (list_any (overlap r) p.ranges) (leb 20000 (length p.ranges)) e in
-    record { window = leb-false r.end r.start parts.0; apart = parts.1; new = parts.2; room = leb-false 20000 (length p.ranges) parts.3 }
+    let a = unfailed (leb r.end r.start) EmptyWindow _ e in
+    let b = unfailed (eqb r.one r.other) SelfPair _ a.1 in
+    let c = unfailed (list_any (overlap r) p.ranges) RangeOverlap _ b.1 in
+    let d = unfailed (leb 20000 (length p.ranges)) TooMany None c.1 in
+    record { window = leb-false r.end r.start a.0; apart = b.0; new = c.0; room = leb-false 20000 (length p.ranges) d.0 }
 
 -- overlap is symmetric
 pub overlap_flip : (a b : Range) → overlap a b ≡ overlap b a
@@ -117,6 +114,4 @@ same_key_overlaps r s a b e = grind (arith, nat_tests)
 
 -- what holds for all elements holds at each place
 pub all_at : {X : Type 0} (P : X → Type 0) (xs : List X) (i : ℕ) (d : X) → AllByRecursion P xs → i < length xs → P (get_or xs i d)
-all_at P [] i d all lt = absurd (omega arith)
-all_at P (x ∷ xs) zero d all lt = all.0
-all_at P (x ∷ xs) (suc i) d all lt = all_at P xs i d all.1 (omega arith)
+all_at P xs i d all lt = All-get_or P xs i d lt (All-from_recursion P xs all)

@@ -1,6 +1,7 @@
 -- A plan's ranges in order, and what a count of the ranges that come by a second tells.
 use Rattle.std.proofs.Common.{◌≡◌, ℕ, zero, suc, ◌-◌, ◌<◌, ◌≤◌, Bool, true, false, cond, ◌||◌, ◌&&◌, not, eqb, ltb, leb, List, [], ◌∷◌, length, get_or, map, refl, sym, ap, subst, ◌∙◌, inl, inr, arith}
-use Rattle.std.proofs.lemmas.List.{get_or_default}
+use Rattle.std.proofs.lemmas.List.{get_or-map, get_or_default, length-map}
+use Rattle.std.proofs.lemmas.Map.Keys.{Less-from_sorted}
 use Rattle.std.specs.Prelude.{IfSome}
 use Rattle.std.specs.List.{find, insert, list_all, list_any, AllByRecursion}
 use Rattle.std.specs.List.Sorted.{IsStrictlySortedBy, IsPartitionedBy}
@@ -8,7 +9,7 @@ use Rattle.std.specs.Option.{option_map}
 use Rattle.std.specs.Ordering.{is_le, ordering_reverse}
 use Rattle.std.proofs.lemmas.Bool.Decides.{nat_tests}
 use Rattle.std.proofs.lemmas.Bool.{and_parts, not-true, le-ltb, ltb-true, leb-true, eqb-true, cases_order, cases_lt, both_ways, false_from_ne_true}
-use Rattle.std.proofs.lemmas.List.Folds.{list_all_at, list_any_at}
+use Rattle.std.proofs.lemmas.List.Folds.{list_all_at, list_any_at, list_any_none}
 use Rattle.std.specs.declared.option.Option.{Option}
 use Rattle.std.specs.declared.option.Option.TheVariants.{Some, None}
 use Rattle.std.specs.declared.cmp.Ordering.{Ordering}
@@ -28,17 +29,14 @@ use Rattle.sabr_model.proofs.PlanLemmas.KeyOrder.{by_key_total, less_is, le_is, 
 
 -- what holds of all keys holds at each place
 pub key_at : (rs : List Range) (i : ℕ) (d : Range) (P : ℕ × ℕ × ℕ → Type 0) → AllByRecursion P (map range_key rs) → i < length rs → P (range_key (get_or rs i d))
-key_at [] i d P all lt = absurd (omega arith)
-key_at (r ∷ rs) zero d P all lt = all.0
-key_at (r ∷ rs) (suc i) d P all lt = key_at rs i d P all.1 (omega arith)
+key_at rs i d P all lt = subst P (get_or-map range_key rs i d (range_key d) lt) (all_at P (map range_key rs) i (range_key d) all (omega (arith, lt, length-map rs range_key)))
 
 -- of two ranges the one in front has the lesser key
 sorted_keys : (rs : List Range) (i j : ℕ) (d : Range) → IsStrictlySortedBy by_key (map range_key rs) → i < j → j < length rs → by_range_key (get_or rs i d) (get_or rs j d) ≡ Less
-unfolding IsStrictlySortedBy
-sorted_keys [] i j d sorted lt within = absurd (omega arith)
-sorted_keys (r ∷ rs) i zero d sorted lt within = absurd (omega arith)
-sorted_keys (r ∷ rs) zero (suc j) d sorted lt within = key_at rs j d (λ y. by_key (range_key r) y ≡ Less) sorted.0 (omega arith)
-sorted_keys (r ∷ rs) (suc i) (suc j) d sorted lt within = sorted_keys rs i j d sorted.1 (omega arith) (omega arith)
+sorted_keys rs i j d sorted lt within =
+    let keys = Less-from_sorted by_key (map range_key rs) i j (range_key d) sorted lt (omega (arith, within, length-map rs range_key)) in
+    ap (by_key (range_key (get_or rs i d))) (sym (get_or-map range_key rs j d (range_key d) within))
+    ∙ ap (λ k. by_key k (get_or (map range_key rs) j (range_key d))) (sym (get_or-map range_key rs i d (range_key d) (omega (arith, lt, within)))) ∙ keys
 
 -- where no two elements pass a test, those at two places don't
 pub apart_at : {X : Type 0} (same : X → X → Bool) (xs : List X) (i j : ℕ) (d : X) → none_twice same xs ≡ true → i < j → j < length xs → same (get_or xs i d) (get_or xs j d) ≡ false
@@ -77,10 +75,7 @@ find_only p (x ∷ xs) (suc i) e lt none =
 
 -- where no place passes, none passes
 any_from_none : {X : Type 0} (p : X → Bool) (xs : List X) → ((k : ℕ) (d : X) → k < length xs → p (get_or xs k d) ≡ true → ⊥) → list_any p xs ≡ false
-any_from_none p [] none = refl
-any_from_none p (x ∷ xs) none =
-    ap (λ b. b || list_any p xs) (false_from_ne_true (p x) (none zero x (omega arith)))
-    ∙ any_from_none p xs (λ k d lt. none (suc k) d (omega arith))
+any_from_none p xs none = list_any_none p xs (λ k d lt. false_from_ne_true (p (get_or xs k d)) (none k d lt))
 
 -- the test of a range that is in force
 abbrev pub in_force : ℕ → ℕ → ℕ → Range → Bool

@@ -4,7 +4,7 @@ use Rattle.std.specs.Prelude.{nat_eq, Vec}
 use Rattle.std.specs.List.{filter, find, list_any, AllByRecursion}
 use Rattle.std.specs.Bool.{then_some}
 use Rattle.std.specs.Option.{option_map}
-use Rattle.std.proofs.lemmas.Bool.{and_parts, or_left, or_right, or_from, eqb-true, eq-eqb, ltb-true, both_ways, false_from_ne_true}
+use Rattle.std.proofs.lemmas.Bool.{and_parts, or_left, or_right, or_from, eqb-true, eq-eqb, ltb-true, both_ways, false_from_ne_true, not-false, cond_both}
 use Rattle.std.specs.declared.option.Option.TheVariants.{Some, None}
 use Rattle.indexmap.specs.IndexMap.{IndexMap, IsUnique}
 use Rattle.sabr_model.specs.declared.contact.Contact.{Contact}
@@ -36,48 +36,36 @@ none_above c n (d ∷ cs) all = ((λ e. absurd (let lt : n < d.number = all.0 in
 -- only the contact found has its number
 pub is_one : (low : ℕ) (cs : List Contact) (n : ℕ) (c : Contact) → rises_above low (map (λ d. d.number) cs) ≡ true → find (λ d. eqb d.number n) cs ≡ Some c → IsOne c n cs
 is_one low [] n c rises found = tt
-is_one low (x ∷ cs) n c rises found = by (is_one x.number cs n c (and_parts (ltb low x.number) (rises_above x.number (map (λ d. d.number) cs)) rises).1) (eqb x.number n) refl
-  where
-    by : (find (λ d. eqb d.number n) cs ≡ Some c → IsOne c n cs) → (b : Bool) → eqb x.number n ≡ b → IsOne c n (x ∷ cs)
-    by rest true e =
-        let parts = and_parts (ltb low x.number) (rises_above x.number (map (λ d. d.number) cs)) rises in
-        let same : Some x ≡ Some c = sym (ap (λ b. cond b (Some x) (find (λ d. eqb d.number n) cs)) e) ∙ found in
-        ((λ _. cc), none_above c n cs (subst (λ m. AllByRecursion (λ d. m < d.number) cs) (eqb-true x.number n e) (all_above x.number cs parts.1)))
-    by rest false e =
-        ((λ t. absurd (both_ways (eqb x.number n) e t)), rest (sym (ap (λ b. cond b (Some x) (find (λ d. eqb d.number n) cs)) e) ∙ found))
+is_one low (x ∷ cs) n c rises found =
+    let parts = and_parts (ltb low x.number) (rises_above x.number (map (λ d. d.number) cs)) rises in
+    elim (eqb x.number n) as (λ b. eqb x.number n ≡ b → cond b (Some x) (find (λ d. eqb d.number n) cs) ≡ Some c → IsOne c n (x ∷ cs)) [
+      | true ↦ λ e is. (let same : x ≡ c = cc in ((λ _. same), none_above c n cs (subst (λ m. AllByRecursion (λ d. m < d.number) cs) (eqb-true x.number n e) (all_above x.number cs parts.1))))
+      | false ↦ λ e behind. ((λ t. absurd (both_ways (eqb x.number n) e t)), is_one x.number cs n c parts.1 behind)
+    ] refl found
 
 -- no other node sends it
 pub absent_sent : (c : Contact) (n : ℕ) (cs : List Contact) (q : ℕ) → IsOne c n cs → eqb q c.from ≡ false → has n (sent_by cs q) ≡ false
 absent_sent c n [] q one ne = refl
-absent_sent c n (x ∷ cs) q one ne = by (absent_sent c n cs q one.1 ne) (eqb q x.from) refl
-  where
-    by : has n (sent_by cs q) ≡ false → (b : Bool) → eqb q x.from ≡ b → has n (map (λ (d : Contact). d.number) (cond (eqb q x.from) (x ∷ filter (λ d. eqb q d.from) cs) (filter (λ d. eqb q d.from) cs))) ≡ false
-    by rest true e =
-        ap (λ b. has n (map (λ (d : Contact). d.number) (cond b (x ∷ filter (λ d. eqb q d.from) cs) (filter (λ d. eqb q d.from) cs)))) e
-        ∙ or_from (eqb n x.number) (has n (sent_by cs q))
-        (false_from_ne_true (eqb n x.number) (λ t.
-        let same : x ≡ c = one.0 (eqb_flip x.number n ∙ t) in
-        both_ways (eqb q c.from) ne (ap (λ (d : Contact). eqb q d.from) (sym same) ∙ e)))
-        rest
-    by rest false e =
-        ap (λ b. has n (map (λ (d : Contact). d.number) (cond b (x ∷ filter (λ d. eqb q d.from) cs) (filter (λ d. eqb q d.from) cs)))) e
-        ∙ rest
+absent_sent c n (x ∷ cs) q one ne =
+    let rest = absent_sent c n cs q one.1 ne in
+    cond_both (eqb q x.from) (x ∷ filter (λ d. eqb q d.from) cs) (filter (λ d. eqb q d.from) cs) (λ (ds : List Contact). has n (map (λ d. d.number) ds) ≡ false)
+    (λ e. or_from (eqb n x.number) (has n (sent_by cs q)) (false_from_ne_true (eqb n x.number) (λ t.
+    let same : x ≡ c = one.0 (eqb_flip x.number n ∙ t) in
+    both_ways (eqb q c.from) ne (ap (λ (d : Contact). eqb q d.from) (sym same) ∙ e))) rest)
+    (λ _. rest)
 
 -- every node except its two is in use as before
 pub ends_kept : (c : Contact) (n : ℕ) (cs : List Contact) (q : ℕ) → IsOne c n cs → eqb q c.from ≡ false → eqb q c.to ≡ false → has q (ends_of (without_number n cs)) ≡ has q (ends_of cs)
 ends_kept c n [] q one f t = refl
-ends_kept c n (x ∷ cs) q one f t = by (ends_kept c n cs q one.1 f t) (eqb x.number n) refl
-  where
-    by : has q (ends_of (without_number n cs)) ≡ has q (ends_of cs) → (b : Bool) → eqb x.number n ≡ b → has q (ends_of (cond (not (eqb x.number n)) (x ∷ without_number n cs) (without_number n cs))) ≡ (eqb q x.from || (eqb q x.to || has q (ends_of cs)))
-    by rest true e =
-        let same : x ≡ c = one.0 e in
-        ap (λ b. has q (ends_of (cond (not b) (x ∷ without_number n cs) (without_number n cs)))) e
-        ∙ rest
-        ∙ ap (λ b. b || has q (ends_of cs)) (sym (ap (λ (d : Contact). eqb q d.to) same ∙ t))
-        ∙ ap (λ b. b || (eqb q x.to || has q (ends_of cs))) (sym (ap (λ (d : Contact). eqb q d.from) same ∙ f))
-    by rest false e =
-        ap (λ b. has q (ends_of (cond (not b) (x ∷ without_number n cs) (without_number n cs)))) e
-        ∙ ap (λ b. eqb q x.from || (eqb q x.to || b)) rest
+ends_kept c n (x ∷ cs) q one f t =
+    let rest = ends_kept c n cs q one.1 f t in
+    cond_both (not (eqb x.number n)) (x ∷ without_number n cs) (without_number n cs) (λ ds. has q (ends_of ds) ≡ (eqb q x.from || (eqb q x.to || has q (ends_of cs))))
+    (λ _. ap (λ b. eqb q x.from || (eqb q x.to || b)) rest)
+    (λ gone.
+    let same : x ≡ c = one.0 (not-false (eqb x.number n) gone) in
+    rest
+    ∙ ap (λ b. b || has q (ends_of cs)) (sym (ap (λ (d : Contact). eqb q d.to) same ∙ t))
+    ∙ ap (λ b. b || (eqb q x.to || has q (ends_of cs))) (sym (ap (λ (d : Contact). eqb q d.from) same ∙ f)))
 
 -- testing each contact for its number and its nodes tests whether a node is in use without that number
 pub in_use_is : (n q : ℕ) (cs : List Contact) → list_any (λ d. not (eqb d.number n) && (eqb q d.from || eqb q d.to)) cs ≡ has q (ends_of (without_number n cs))
@@ -95,20 +83,17 @@ in_use_is n q (x ∷ cs) =
 -- the nodes of a standing contact are in use
 pub ends_of_found : (cs : List Contact) (n : ℕ) (c : Contact) → find (λ d. eqb d.number n) cs ≡ Some c → (has c.from (ends_of cs) ≡ true) × (has c.to (ends_of cs) ≡ true)
 ends_of_found [] n c found = absurd cc
-ends_of_found (x ∷ cs) n c found = by (ends_of_found cs n c) (eqb x.number n) refl
-  where
-    by : (find (λ d. eqb d.number n) cs ≡ Some c → (has c.from (ends_of cs) ≡ true) × (has c.to (ends_of cs) ≡ true)) → (b : Bool) → eqb x.number n ≡ b → (has c.from (ends_of (x ∷ cs)) ≡ true) × (has c.to (ends_of (x ∷ cs)) ≡ true)
-    by rest_of true e =
-        let some : Some x ≡ Some c = sym (ap (λ b. cond b (Some x) (find (λ d. eqb d.number n) cs)) e) ∙ found in
-        let same : x ≡ c = cc in (
-          or_left (eqb c.from x.from) (eqb c.from x.to || has c.from (ends_of cs)) (eq-eqb c.from x.from (ap (λ (d : Contact). d.from) (sym same))),
-          or_right (eqb c.to x.from) (eqb c.to x.to || has c.to (ends_of cs)) (or_left (eqb c.to x.to) (has c.to (ends_of cs)) (eq-eqb c.to x.to (ap (λ (d : Contact). d.to) (sym same)))),
-        )
-    by rest_of false e =
-        let rest = rest_of (sym (ap (λ b. cond b (Some x) (find (λ d. eqb d.number n) cs)) e) ∙ found) in (
-          or_right (eqb c.from x.from) (eqb c.from x.to || has c.from (ends_of cs)) (or_right (eqb c.from x.to) (has c.from (ends_of cs)) rest.0),
-          or_right (eqb c.to x.from) (eqb c.to x.to || has c.to (ends_of cs)) (or_right (eqb c.to x.to) (has c.to (ends_of cs)) rest.1),
-        )
+ends_of_found (x ∷ cs) n c found =
+    elim (eqb x.number n) as (λ b. cond b (Some x) (find (λ d. eqb d.number n) cs) ≡ Some c → (has c.from (ends_of (x ∷ cs)) ≡ true) × (has c.to (ends_of (x ∷ cs)) ≡ true)) [
+      | true ↦ λ is. (let same : x ≡ c = cc in (
+        or_left (eqb c.from x.from) (eqb c.from x.to || has c.from (ends_of cs)) (eq-eqb c.from x.from (ap (λ (d : Contact). d.from) (sym same))),
+        or_right (eqb c.to x.from) (eqb c.to x.to || has c.to (ends_of cs)) (or_left (eqb c.to x.to) (has c.to (ends_of cs)) (eq-eqb c.to x.to (ap (λ (d : Contact). d.to) (sym same)))),
+      ))
+      | false ↦ λ behind. (let rest = ends_of_found cs n c behind in (
+        or_right (eqb c.from x.from) (eqb c.from x.to || has c.from (ends_of cs)) (or_right (eqb c.from x.to) (has c.from (ends_of cs)) rest.0),
+        or_right (eqb c.to x.from) (eqb c.to x.to || has c.to (ends_of cs)) (or_right (eqb c.to x.to) (has c.to (ends_of cs)) rest.1),
+      ))
+    ] found
 
 -- what a node sends without one number
 pub sent_by-without : (cs : List Contact) (n q : ℕ) → sent_by (without_number n cs) q ≡ filter (λ k. not (eqb k n)) (sent_by cs q)

@@ -7,22 +7,24 @@ use Rattle.std.specs.declared.cmp.Ordering.{Ordering}
 use Rattle.std.specs.declared.cmp.Ordering.TheVariants.{Less}
 use Rattle.std.specs.declared.option.Option.TheVariants.{Some, None}
 use Rattle.std.proofs.lemmas.Bool.Decides.{nat_tests}
+use Rattle.std.proofs.lemmas.Option.{slice_get_within, get_or_from_slice_get}
 use Rattle.sabr_model.specs.plan.Plan.{ContactPlan, IsPlan, contact_named, has, are_different}
 use Rattle.sabr_model.specs.routes.Arrival.{RouteRequest, arrival_after, cost}
 use Rattle.sabr_model.specs.routes.Route.{chain_end, by_key, delivery_of, receivers}
 use Rattle.sabr_model.specs.routes.Listing.{routes}
 use Rattle.sabr_model.specs.routes.Journeys.{CanArrive, IsJourney, MeetsNoneTwice, FirstDeliversBy, asked_at}
 use Rattle.sabr_model.specs.Laws.{EveryWayIsListed}
-use Rattle.sabr_model.proofs.ListLemmas.Members.{IsIn, all_in, in_from_Contains, Contains-from_in}
+use Rattle.sabr_model.proofs.ListLemmas.Members.{IsIn, all_in, in_from_Contains}
 use Rattle.sabr_model.proofs.RouteLemmas.Waiting.{no_later, no_sooner, soonest}
 use Rattle.sabr_model.proofs.RouteLemmas.Paths.{value_of}
 use Rattle.sabr_model.proofs.RouteLemmas.Routes.{route_facts, route_from_facts}
 use Rattle.sabr_model.proofs.RouteLemmas.RoutesListed.{routes_are_listed}
 use Rattle.std.specs.List.{list_all}
 use Rattle.std.specs.Option.{option_and_then}
-use Rattle.std.proofs.lemmas.Bool.{and_parts, and_from, or_cases, eqb-true, eq-eqb, not_from_false, cond-true}
+use Rattle.std.proofs.lemmas.Bool.{and_parts, and_from, or_cases, eqb-true, not_from_false, cond-true}
 use Rattle.sabr_model.specs.declared.contact.Contact.{Contact}
-use Rattle.sabr_model.proofs.ListLemmas.Begins.{first_hop, receivers-cons}
+use Rattle.sabr_model.proofs.ListLemmas.Answered.{passed}
+use Rattle.sabr_model.proofs.ListLemmas.Begins.{receivers-cons}
 
 -- Journeys that come to a node more than once: without what lies between, they arrive no later.
 
@@ -51,12 +53,10 @@ earlier p r a t u b d hops more s le wide way =
       in_time = omega (arith, soon.2, way.in_time);
     }
 
--- what is left of a chain after its first contact
-rest_of : (p : ContactPlan) (a n : ℕ) (s : List ℕ) (b : ℕ) (c : Contact) → contact_named p n ≡ Some c → chain_end p a (n ∷ s) ≡ Some b → chain_end p c.to s ≡ Some b
+-- the first contact of a chain, and what is left of it
+rest_of : (p : ContactPlan) (a n : ℕ) (s : List ℕ) (b : ℕ) (c : Contact) → contact_named p n ≡ Some c → chain_end p a (n ∷ s) ≡ Some b → (eqb c.from a ≡ true) × (chain_end p c.to s ≡ Some b)
 rest_of p a n s b c named reaches =
-    let hop = first_hop p a n s b reaches in
-    let same : hop.contact ≡ c = cc (hop.named, named) in
-    subst (λ (x : Contact). chain_end p x.to s ≡ Some b) same hop.rest
+    passed (eqb c.from a) (chain_end p c.to s) b (sym (ap (option_and_then (λ (x : Contact). cond (eqb x.from a) (chain_end p x.to s) None)) named) ∙ reaches)
 
 module _ (p : ContactPlan) (r : RouteRequest) where
   -- without its first contact it is such a chain of the next node, and a bundle that is there as early has time enough
@@ -68,7 +68,7 @@ module _ (p : ContactPlan) (r : RouteRequest) where
         c,
         named,
         earlier p r c.to t (sent + cost r.margin l) b d hops hops s (omega (arith, there)) (omega arith) (record {
-          reaches = rest_of p a n s b c named way.reaches;
+          reaches = (rest_of p a n s b c named way.reaches).1;
           different = ap are_different (sym all) ∙ different.1;
           allowed = allowed.1;
           within = omega (arith, way.within);
@@ -93,15 +93,6 @@ module _ (p : ContactPlan) (r : RouteRequest) where
             from_visit x next.0.to t b d hops s next.2 (ap (has x) (sym (receivers-cons p n s next.0 next.1)) ∙ later)
       ]
 
--- one more contact before a chain
-one_more : (p : ContactPlan) (a n b : ℕ) (s z : List ℕ) (c : Contact) → contact_named p n ≡ Some c → chain_end p a (n ∷ s) ≡ Some b → chain_end p c.to z ≡ Some b → chain_end p a (n ∷ z) ≡ Some b
-one_more p a n b s z c named first e =
-    let hop = first_hop p a n s b first in
-    let same : hop.contact ≡ c = cc (hop.named, named) in
-    let from : c.from ≡ a = sym (ap (λ (x : Contact). x.from) same) ∙ hop.sent in
-    ap (option_and_then (λ (x : Contact). cond (eqb x.from a) (chain_end p x.to z) None)) named
-    ∙ cond-true (eqb c.from a) (chain_end p c.to z) None (eq-eqb c.from a from) ∙ e
-
 -- each chain has one without loops that arrives no later
 pub without_loops : (p : ContactPlan) (r : RouteRequest) (a t b d : ℕ) (s : List ℕ) → chain_end p a s ≡ Some b → list_all (λ n. not (has n r.avoided)) (receivers p s) ≡ true → CanArrive p r t s d → (z : List ℕ) × IsLoopless p r a t b d (length s) z
 without_loops p r a t b d [] reaches allowed same =
@@ -109,7 +100,8 @@ without_loops p r a t b d [] reaches allowed same =
 without_loops p r a t b d (n ∷ s) reaches allowed (c, l, sent, named, light, there, begun, before, rest) =
     let all = receivers-cons p n s c named in
     let parts = and_parts (not (has c.to r.avoided)) (list_all (λ m. not (has m r.avoided)) (receivers p s)) (ap (list_all (λ m. not (has m r.avoided))) (sym all) ∙ allowed) in
-    let onward = without_loops p r c.to (sent + cost r.margin l) b d s (rest_of p a n s b c named reaches) parts.1 rest in
+    let hop = rest_of p a n s b c named reaches in
+    let onward = without_loops p r c.to (sent + cost r.margin l) b d s hop.1 parts.1 rest in
     let behind = receivers-cons p n onward.0 c named in
     elim (has a (c.to ∷ receivers p onward.0)) as (λ met. has a (c.to ∷ receivers p onward.0) ≡ met → (z : List ℕ) × IsLoopless p r a t b d (length (n ∷ s)) z) [
       | true ↦ λ met.
@@ -117,7 +109,8 @@ without_loops p r a t b d (n ∷ s) reaches allowed (c, l, sent, named, light, t
       | false ↦ λ new. (
         n ∷ onward.0,
         record {
-          reaches = one_more p a n b s onward.0 c named reaches onward.1.reaches;
+          reaches = ap (option_and_then (λ (x : Contact). cond (eqb x.from a) (chain_end p x.to onward.0) None)) named
+              ∙ cond-true (eqb c.from a) (chain_end p c.to onward.0) None hop.0 ∙ onward.1.reaches;
           different = ap (λ w. are_different (a ∷ w)) behind ∙ and_from (not (has a (c.to ∷ receivers p onward.0))) (are_different (c.to ∷ receivers p onward.0)) (not_from_false (has a (c.to ∷ receivers p onward.0)) new) onward.1.different;
           allowed = ap (list_all (λ m. not (has m r.avoided))) behind ∙ and_from (not (has c.to r.avoided)) (list_all (λ m. not (has m r.avoided)) (receivers p onward.0)) parts.0 onward.1.allowed;
           within = omega (arith, onward.1.within);
@@ -143,11 +136,6 @@ first_delivers p r [] s sorted never = absurd never
 first_delivers p r (x ∷ ways) s sorted (inl same) = (x, refl, omega (arith, ap (delivery_of p r) same))
 first_delivers p r (x ∷ ways) s sorted (inr behind) =
     (x, refl, first_decides (delivery_of p r x) (delivery_of p r s) _ (all_in (λ z. by_key p r x z ≡ Less) ways sorted.0 s behind))
-
--- the first of a list is one of it
-first_is_in : (ways : List (List ℕ)) (x : List ℕ) → slice_get ways 0 ≡ Some x → IsIn x ways
-first_is_in [] x e = absurd cc
-first_is_in (y ∷ ways) x e = let same : y ≡ x = cc in inl (sym same)
 
 -- ---- journeys and routes
 
@@ -200,7 +188,7 @@ module _ (p : ContactPlan) (r : RouteRequest) (plan : IsPlan p) where
 -- a bundle that is at the source later makes a journey that is one for the earlier bundle, too
 nobody_overtakes : (p : ContactPlan) (r : RouteRequest) → IsPlan p → r.source ≢ r.destination → (t d : ℕ) → r.at ≤ t → FirstDeliversBy p (asked_at r t) d → FirstDeliversBy p r d
 nobody_overtakes p r plan apart t d le (s, first, by_d) =
-    let later = route_is_travelled p (asked_at r t) plan s (Contains-from_in (routes p (asked_at r t)) s (first_is_in (routes p (asked_at r t)) s first)) in
+    let later = route_is_travelled p (asked_at r t) plan s (0, slice_get_within (routes p (asked_at r t)) 0 s first, get_or_from_slice_get (routes p (asked_at r t)) 0 s s first) in
     let soon = no_later p r r.at t s (delivery_of p (asked_at r t) s) le later.0.arrives in
     let found = nothing_is_sooner p r plan apart s soon.0 (record {
       reaches = later.0.reaches;

@@ -1,5 +1,5 @@
 -- A list without a fault is a route, and the reverse.
-use Rattle.std.proofs.Common.{◌≡◌, ℕ, ◌+◌, max, Bool, true, false, cond, not, eqb, leb, ltb, List, [], ◌∷◌, ◌++◌, length, refl, sym, ap, subst, ◌∙◌, arith, append_assoc, suc, min, true≢false, Option, Some, None}
+use Rattle.std.proofs.Common.{◌≡◌, ℕ, ◌+◌, max, Bool, true, false, cond, not, eqb, leb, ltb, List, [], ◌∷◌, ◌++◌, length, refl, sym, ap, subst, ◌∙◌, arith, append_assoc, min, true≢false, Option, Some, None}
 use Rattle.std.specs.Prelude.{is_none, IsTrue, ◌==◌}
 use Rattle.std.specs.Option.{option_map, option_map_or, option_and_then}
 use Rattle.std.proofs.lemmas.Bool.{eqb-true, eq-eqb, leb-true, le-leb, false_from_ne_true, not-false}
@@ -15,11 +15,12 @@ use Rattle.sabr_model.specs.routes.Route.{chain_end, receivers, ends_at, is_path
 use Rattle.sabr_model.specs.routes.Fault.{contact_fault, fault_at, fault_or, first_fault, fault_of}
 use Rattle.sabr_model.specs.Laws.{FaultsTellRoutes}
 use Rattle.std.proofs.lemmas.List.{append-nil}
+use Rattle.sabr_model.proofs.ListLemmas.Answered.{unfailed}
+use Rattle.sabr_model.proofs.RouteLemmas.Waiting.{told_by}
 use Rattle.sabr_model.proofs.RouteLemmas.Routes.{route_facts, empty_route, end_named}
 use Rattle.sabr_model.proofs.RouteLemmas.Paths.{IsHop, value_of, path_facts, hop_facts, path_push, beginning_is_path, route_is_path, route_from_path}
 use Rattle.sabr_model.proofs.RouteLemmas.Prefixes.{empty_is_path}
 use Rattle.std.specs.List.{fold, cons_option}
-use Rattle.std.proofs.lemmas.Bool.Decides.{nat_tests}
 use Rattle.std.proofs.lemmas.List.Sums.{fold-append}
 use Rattle.std.proofs.lemmas.List.Elements.{filter_map-append}
 use Rattle.sabr_model.specs.routes.Telling.{summary_of}
@@ -30,29 +31,13 @@ neither : (o o' : Option HopFault) → fault_or o o' ≡ None → (o ≡ None) �
 neither None o' e = (refl, e)
 neither (Some f) o' e = absurd cc
 
--- if there is no fault, no check found one
-none_of_six : (a b c d e f : Bool) (x : ℕ) → cond a (Some (NotChained x)) (cond b (Some (NodeAgain x)) (cond c (Some (NoLight x)) (cond d (Some (TooLate x)) (cond e (Some (AvoidedNode x)) (cond f (Some (TooManyHops x)) None))))) ≡ None
-    → (a ≡ false) × (b ≡ false) × (c ≡ false) × (d ≡ false) × (e ≡ false) × (f ≡ false)
-none_of_six true b c d e f x h = absurd cc
-none_of_six false true c d e f x h = absurd cc
-none_of_six false false true d e f x h = absurd cc
-none_of_six false false false true e f x h = absurd cc
-none_of_six false false false false true f x h = absurd cc
-none_of_six false false false false false true x h = absurd cc
-none_of_six false false false false false false x h = (refl, refl, refl, refl, refl, refl)
-
 six_to_none : (a b c d e f : Bool) (x : ℕ) → a ≡ false → b ≡ false → c ≡ false → d ≡ false → e ≡ false → f ≡ false
     → cond a (Some (NotChained x)) (cond b (Some (NodeAgain x)) (cond c (Some (NoLight x)) (cond d (Some (TooLate x)) (cond e (Some (AvoidedNode x)) (cond f (Some (TooManyHops x)) None))))) ≡ None
 six_to_none a b c d e f x ha hb hc hd he hf = rw (ha, hb, hc, hd, he, hf) refl
 
-lit_of : (b : Bool) (f : ℕ → ℕ) (o : Option ℕ) (x : ℕ) → cond b (option_map f o) None ≡ Some x → is_none o ≡ false
-lit_of true f None x e = absurd cc
-lit_of true f (Some l) x e = refl
-lit_of false f o x e = absurd cc
-
 -- an arrival shows that there is light
 lit : (p : ContactPlan) (r : RouteRequest) (t : ℕ) (c : Contact) (x : ℕ) → arrival p r t c ≡ Some x → is_none (light_of p c) ≡ false
-lit p r t c x e = lit_of (ltb (max t c.start) c.end) (λ l. max t c.start + cost r.margin l) (light_of p c) x e
+lit p r t c x e = ap is_none (told_by (max t c.start) c.end r.margin x (light_of p c) e).1
 
 -- a hop that continues a path has no fault
 pub hop_is_good : (p : ContactPlan) (r : RouteRequest) (q : List ℕ) (n : ℕ) → IsHop p r q n → fault_at p r q n ≡ None
@@ -91,27 +76,25 @@ good_is_hop p r q n path e =
       | None ↦ λ named h. absurd cc
       | Some c ↦ λ named h.
           let place = length q + 1 in
-          let all = none_of_six
-          (not (option_map_or (λ a. eqb a c.from) (chain_end p r.source q) false))
-          (has c.to (r.source ∷ receivers p q))
-          (is_none (light_of p c))
-          (is_none (option_and_then (λ t. arrival p r t c) (arrival_after p r r.at q)))
-          (has c.to r.avoided)
-          (not (leb place r.max_hops))
-          place h in
+          let sent = unfailed (not (option_map_or (λ a. eqb a c.from) (chain_end p r.source q) false)) (NotChained place) _ h in
+          let new = unfailed (has c.to (r.source ∷ receivers p q)) (NodeAgain place) _ sent.1 in
+          let light = unfailed (is_none (light_of p c)) (NoLight place) _ new.1 in
+          let late = unfailed (is_none (option_and_then (λ t. arrival p r t c) (arrival_after p r r.at q))) (TooLate place) _ light.1 in
+          let allowed = unfailed (has c.to r.avoided) (AvoidedNode place) _ late.1 in
+          let few = unfailed (not (leb place r.max_hops)) (TooManyHops place) None allowed.1 in
           let ready = value_of (arrival_after p r r.at q) (path_facts p r q path).in_time in
-          let arrived = not_none (arrival p r ready.0 c) (ap (λ o. is_none (option_and_then (λ t. arrival p r t c) o)) (sym ready.1) ∙ all.3) in
+          let arrived = not_none (arrival p r ready.0 c) (ap (λ o. is_none (option_and_then (λ t. arrival p r t c) o)) (sym ready.1) ∙ late.0) in
           record {
             contact = c;
             named = named;
-            sent = tested (chain_end p r.source q) c.from all.0;
-            fresh = all.1;
+            sent = tested (chain_end p r.source q) c.from sent.0;
+            fresh = new.0;
             ready = ready.0;
             there_at = ready.1;
             arrived = arrived.0;
             arrives_at = arrived.1;
-            allowed = all.4;
-            room = let w = leb-true place r.max_hops (not-false (leb place r.max_hops) all.5) in omega arith;
+            allowed = allowed.0;
+            room = let w = leb-true place r.max_hops (not-false (leb place r.max_hops) few.0) in omega arith;
           }
     ] refl e
 
@@ -166,15 +149,9 @@ module _ (p : ContactPlan) (n : ℕ) where
       ∙ fold-append (λ m (d : Contact). min m d.end) 253370764799 (contacts_of p s) (contacts_of p (n ∷ []))
       ∙ ap (λ o. fold (λ m (d : Contact). min m d.end) (until_of p s) (cons_option o [])) named
 
-  no : (k : ℕ) → (suc k == 0) ≡ true → ⊥
-  no k h = true≢false (sym h ∙ some k)
-    where
-      some : (n : ℕ) → (suc n == 0) ≡ false
-      some n = grind (arith, nat_tests)
-
   entry_first : (s : List ℕ) (o : Option Contact) → contact_named p n ≡ o → (length s == 0) ≡ true → entry_of p (s ++ n ∷ []) ≡ option_map_or (λ (c : Contact). c.to) o 0
   entry_first [] o named h = ap (λ o. option_map_or (λ (c : Contact). c.to) o 0) named
-  entry_first (x ∷ s) o named h = absurd (no (length s) h)
+  entry_first (x ∷ s) o named h = absurd (omega (arith, eqb-true (length (x ∷ s)) 0 h))
 
   entry_kept : (s : List ℕ) → (length s == 0) ≡ false → entry_of p (s ++ n ∷ []) ≡ entry_of p s
   entry_kept [] h = absurd (true≢false h)

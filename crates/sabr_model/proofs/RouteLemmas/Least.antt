@@ -15,21 +15,13 @@ use Rattle.sabr_model.specs.routes.Route.{is_route, until_of, entry_of, by_key}
 use Rattle.sabr_model.specs.routes.Listing.{routes}
 use Rattle.sabr_model.specs.routes.Parts.{goes_on, least_in}
 use Rattle.sabr_model.specs.routes.Record.{record_of, by_record}
-use Rattle.sabr_model.proofs.ListLemmas.Members.{IsIn, in_from_Contains, Contains-from_in, all_in}
+use Rattle.sabr_model.proofs.ListLemmas.Members.{IsIn, in_from_Contains, Contains-from_in, all_in, find_in}
 use Rattle.sabr_model.proofs.RouteLemmas.Listed.{key_total, key_tells}
 use Rattle.sabr_model.proofs.RouteLemmas.RoutesListed.{routes_are_listed}
 
 -- ---- the first that passes a test
 
 module _ {X : Type 0} (test : X → Bool) where
-  find_in : (xs : List X) (x : X) → find test xs ≡ Some x → IsIn x xs × (test x ≡ true)
-  find_in [] x e = absurd cc
-  find_in (y ∷ ys) x e =
-      elim (test y) as (λ b. test y ≡ b → cond b (Some y) (find test ys) ≡ Some x → IsIn x (y ∷ ys) × (test x ≡ true)) [
-        | true ↦ λ w g. let same : y ≡ x = cc in (inl (sym same), subst (λ z. test z ≡ true) same w)
-        | false ↦ λ w g. let m = find_in ys x g in (inr m.0, m.1)
-      ] refl e
-
   find_none : (xs : List X) (t : X) → find test xs ≡ None → IsIn t xs → test t ≡ true → ⊥
   find_none [] t e i h = i
   find_none (y ∷ ys) t e i h =

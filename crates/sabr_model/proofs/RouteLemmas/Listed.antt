@@ -1,21 +1,22 @@
 -- Every route is a candidate, and the key orders routes.
-use Rattle.std.proofs.Common.{◌≡◌, ℕ, ◌+◌, ◌<◌, ◌≤◌, true, false, cond, not, eqb, ltb, List, [], ◌∷◌, length, map, refl, sym, ap, subst, ◌∙◌, inl, inr, ⊎_elim, arith}
+use Rattle.std.proofs.Common.{◌≡◌, ℕ, ◌+◌, ◌<◌, ◌≤◌, true, false, not, eqb, List, [], ◌∷◌, length, map, refl, sym, ap, subst, ◌∙◌, inl, inr, ⊎_elim, arith}
 use Rattle.std.specs.Prelude.{nat_eq}
 use Rattle.std.specs.List.{filter, find, range_with_len, AllByRecursion, IsDistinct}
 use Rattle.std.specs.Cmp.{IsTotalOrder, nat_eq_equiv}
 use Rattle.std.specs.Cmp.Lexicographic.{on_texts}
 use Rattle.std.specs.FinMap.{slice_cmp-IsAntisymmetric, nat_cmp-IsAntisymmetric}
-use Rattle.std.proofs.lemmas.Bool.{and_parts, and_from, or_cases, or_parts, or_left, or_right, eqb-true, eq-eqb, not-true, not_from_false, both_ways, ltb-true, false_from_ne_true}
+use Rattle.std.proofs.lemmas.Bool.{and_parts, and_from, or_cases, or_parts, or_left, or_right, eqb-true, eq-eqb, not-true, not_from_false, both_ways, false_from_ne_true}
 use Rattle.std.proofs.lemmas.Map.Made.{length-le_from_is_member}
 use Rattle.std.proofs.lemmas.List.FromFn.{length-range_with_len}
 use Rattle.std.specs.declared.option.Option.TheVariants.{Some}
 use Rattle.std.specs.declared.cmp.Ordering.TheVariants.{Equal}
 use Rattle.sabr_model.specs.declared.contact.Contact.{Contact}
-use Rattle.sabr_model.specs.plan.Plan.{ContactPlan, IsPlan, contact_named, has, are_different, rises_above}
+use Rattle.sabr_model.specs.plan.Plan.{ContactPlan, IsPlan, contact_named, has, are_different}
 use Rattle.sabr_model.specs.routes.Arrival.{RouteRequest}
 use Rattle.sabr_model.specs.routes.Route.{chain_end, receivers, IsRoute, key_of, by_key}
 use Rattle.sabr_model.specs.routes.Listing.{lists_of_length, candidates}
-use Rattle.sabr_model.proofs.ListLemmas.Members.{IsIn, in_map, in_flat_map, in_filter, in_range}
+use Rattle.sabr_model.proofs.ListLemmas.Members.{IsIn, all_in, find_in, in_map, in_flat_map, in_filter, in_range}
+use Rattle.sabr_model.proofs.PlanLemmas.Without.{all_above}
 use Rattle.sabr_model.proofs.ListLemmas.Begins.{first_hop, receivers-cons}
 
 -- ---- a list of different numbers from a list is among its lists of that length
@@ -65,31 +66,15 @@ is_candidate n s d all =
 
 -- the contact with a number is one of the contacts, and has that number
 pub named_is : (cs : List Contact) (n : ℕ) (c : Contact) → find (λ d. eqb d.number n) cs ≡ Some c → IsIn c cs × (c.number ≡ n)
-named_is [] n c e = absurd cc
-named_is (d ∷ cs) n c e =
-    elim (eqb d.number n) as (λ b. eqb d.number n ≡ b → cond b (Some d) (find (λ f. eqb f.number n) cs) ≡ Some c → IsIn c (d ∷ cs) × (c.number ≡ n)) [
-      | true ↦ λ w g. let same : d ≡ c = cc in (inl (sym same), ap (λ (x : Contact). x.number) (sym same) ∙ eqb-true d.number n w)
-      | false ↦ λ w g. let m = named_is cs n c g in (inr m.0, m.1)
-    ] refl e
-
-above : (low : ℕ) (cs : List Contact) (c : Contact) → rises_above low (map (λ d. d.number) cs) ≡ true → IsIn c cs → low < c.number
-above low [] c h i = absurd i
-above low (d ∷ cs) c h i =
-    let parts = and_parts (ltb low d.number) (rises_above d.number (map (λ f. f.number) cs)) h in
-    let first = ltb-true low d.number parts.0 in
-    ⊎_elim (λ e. subst (λ (x : Contact). low < x.number) (sym e) first) (λ k. let rest = above d.number cs c parts.1 k in omega arith) i
-
-given : (top : ℕ) (cs : List Contact) (c : Contact) → AllByRecursion (λ d. d.number ≤ top) cs → IsIn c cs → c.number ≤ top
-given top [] c all i = absurd i
-given top (d ∷ cs) c all i = ⊎_elim (λ e. subst (λ (x : Contact). x.number ≤ top) (sym e) all.0) (λ k. given top cs c all.1 k) i
+named_is cs n c e = let found = find_in (λ d. eqb d.number n) cs c e in (found.0, eqb-true c.number n found.1)
 
 numbers_in_range : (p : ContactPlan) → IsPlan p → (a : ℕ) (s : List ℕ) (b : ℕ) → chain_end p a s ≡ Some b → AllByRecursion (λ n. IsIn n (range_with_len 1 p.largest)) s
 numbers_in_range p good a [] b e = tt
 numbers_in_range p good a (n ∷ s) b e =
     let h = first_hop p a n s b e in
     let m = named_is p.contacts n h.contact h.named in
-    let low = above 0 p.contacts h.contact good.numbers_rise m.0 in
-    let high = given p.largest p.contacts h.contact good.numbers_given m.0 in
+    let low = all_in (λ (d : Contact). 0 < d.number) p.contacts (all_above 0 p.contacts good.numbers_rise) h.contact m.0 in
+    let high = all_in (λ (d : Contact). d.number ≤ p.largest) p.contacts good.numbers_given h.contact m.0 in
     let same = m.1 in
     (in_range n 1 p.largest (omega arith) (omega arith), numbers_in_range p good h.contact.to s b h.rest)
 

@@ -1,48 +1,22 @@
 -- Chains that can be the beginning of a route: their facts, their beginnings, and one more hop.
-use Rattle.std.proofs.Common.{◌≡◌, ℕ, ◌<◌, Bool, true, false, cond, ◌&&◌, ◌||◌, not, eqb, leb, List, [], ◌∷◌, ◌++◌, length, refl, sym, ap, ◌∙◌, arith, length-append}
-use Rattle.sabr_model.proofs.ListLemmas.Different.{different_front}
+use Rattle.std.proofs.Common.{◌≡◌, ℕ, ◌<◌, Bool, true, false, cond, ◌&&◌, not, eqb, leb, List, [], ◌∷◌, ◌++◌, length, refl, sym, ap, subst, ◌∙◌, ⊎_elim, arith, length-append}
+use Rattle.sabr_model.proofs.ListLemmas.Different.{different_append, different_front, different_last}
 use Rattle.std.specs.Prelude.{is_some, IsTrue}
 use Rattle.std.specs.List.{list_all}
 use Rattle.std.specs.Option.{option_and_then}
-use Rattle.std.proofs.lemmas.Bool.{and_parts, and_from, or_parts, or_from, or_left, leb-true, le-leb, eqb-true, eq-eqb, not-true, not_from_false, false_from_ne_true, both_ways}
-use Rattle.std.proofs.lemmas.List.Folds.{list_any-append, list_all-append}
+use Rattle.std.proofs.lemmas.Bool.{and_parts, and_from, or_cases, leb-true, le-leb, eqb-true, eq-eqb, not-true, not_from_false, false_from_ne_true, both_ways}
+use Rattle.std.proofs.lemmas.List.Folds.{list_all-append}
 use Rattle.std.specs.declared.option.Option.{Option}
 use Rattle.std.specs.declared.option.Option.TheVariants.{Some, None}
 use Rattle.sabr_model.specs.declared.contact.Contact.{Contact}
 use Rattle.sabr_model.specs.plan.Plan.{ContactPlan, contact_named, has, are_different}
 use Rattle.sabr_model.specs.routes.Arrival.{RouteRequest, arrival, arrival_after}
 use Rattle.sabr_model.specs.routes.Route.{chain_end, receivers, is_path, is_route, IsPath}
+pub use Rattle.sabr_model.proofs.RouteLemmas.Routes.{path_facts, path_from_facts}
 use Rattle.sabr_model.proofs.RouteLemmas.Routes.{route_facts, route_from_facts}
-use Rattle.sabr_model.proofs.ListLemmas.Begins.{chain_end-append, receivers-append, receivers-cons, different_apart, first_hop}
+use Rattle.sabr_model.proofs.ListLemmas.Begins.{chain_end-append, receivers-append, receivers-cons, first_hop}
 
--- ---- the test and its facts
-
-pub path_facts : (p : ContactPlan) (r : RouteRequest) (s : List ℕ) → IsTrue (is_path p r s) → IsPath p r s
-unfolding is_path
-path_facts p r s h =
-    let chained = is_some (chain_end p r.source s) in
-    let different = are_different (r.source ∷ receivers p s) in
-    let in_time = is_some (arrival_after p r r.at s) in
-    let allowed = list_all (λ n. not (has n r.avoided)) (receivers p s) in
-    let within = leb (length s) r.max_hops in
-    let a = and_parts (chained && different && in_time && allowed) within h in
-    let b = and_parts (chained && different && in_time) allowed a.0 in
-    let c = and_parts (chained && different) in_time b.0 in
-    let d = and_parts chained different c.0 in
-    record { chained = d.0; different = d.1; in_time = c.1; allowed = b.1; within = leb-true (length s) r.max_hops a.1 }
-
-pub path_from_facts : (p : ContactPlan) (r : RouteRequest) (s : List ℕ) → IsPath p r s → IsTrue (is_path p r s)
-unfolding is_path
-path_from_facts p r s h =
-    let chained = is_some (chain_end p r.source s) in
-    let different = are_different (r.source ∷ receivers p s) in
-    let in_time = is_some (arrival_after p r r.at s) in
-    let allowed = list_all (λ n. not (has n r.avoided)) (receivers p s) in
-    and_from (chained && different && in_time && allowed) (leb (length s) r.max_hops)
-    (and_from (chained && different && in_time) allowed
-    (and_from (chained && different) in_time (and_from chained different h.chained h.different) h.in_time)
-    h.allowed)
-    (le-leb (length s) r.max_hops h.within)
+-- ---- routes and paths
 
 -- a route is a path that has a hop and ends at the destination
 pub route_is_path : (p : ContactPlan) (r : RouteRequest) (s : List ℕ) → IsTrue (is_route p r s) → IsTrue (is_path p r s)
@@ -111,18 +85,9 @@ pub record IsHop (p : ContactPlan) (r : RouteRequest) (q : List ℕ) (n : ℕ) :
   pub allowed : has contact.to r.avoided ≡ false
   pub room : length q < r.max_hops
 
--- a last number that others don't have
-different_last : (xs : List ℕ) (x : ℕ) → are_different (xs ++ x ∷ []) ≡ true → has x xs ≡ false
-different_last xs x d = false_from_ne_true (has x xs) (λ h. different_apart xs (x ∷ []) x d h (or_left (eqb x x) false (eq-eqb x x refl)))
-
 different_push : (xs : List ℕ) (x : ℕ) → are_different xs ≡ true → has x xs ≡ false → are_different (xs ++ x ∷ []) ≡ true
-different_push [] x d new = refl
-different_push (y ∷ xs) x d new =
-    let parts = and_parts (not (has y xs)) (are_different xs) d in
-    let other = or_parts (eqb x y) (has x xs) new in
-    let apart : eqb y x ≡ false = false_from_ne_true (eqb y x) (λ h. both_ways (eqb x y) other.0 (eq-eqb x y (sym (eqb-true y x h)))) in
-    let fresh : has y (xs ++ x ∷ []) ≡ false = list_any-append (eqb y) xs (x ∷ []) ∙ or_from (has y xs) (eqb y x || false) (not-true (has y xs) parts.0) (or_from (eqb y x) false apart refl) in
-    and_from (not (has y (xs ++ x ∷ []))) (are_different (xs ++ x ∷ [])) (not_from_false (has y (xs ++ x ∷ [])) fresh) (different_push xs x parts.1 other.1)
+different_push xs x d new =
+    different_append xs (x ∷ []) d refl (λ n in_xs in_x. ⊎_elim (λ same. both_ways (has x xs) new (subst (λ m. has m xs ≡ true) (eqb-true n x same) in_xs)) (λ no. absurd cc) (or_cases (eqb n x) false in_x))
 
 -- the receivers after one more hop
 pub receivers_push : (p : ContactPlan) (q : List ℕ) (n : ℕ) (c : Contact) → contact_named p n ≡ Some c → receivers p (q ++ n ∷ []) ≡ receivers p q ++ c.to ∷ []
@@ -166,7 +131,7 @@ hop_facts p r q n h =
       contact = hop.contact;
       named = hop.named;
       sent = end.1 ∙ ap Some (sym hop.sent);
-      fresh = different_last (r.source ∷ receivers p q) hop.contact.to (ap (λ w. are_different (r.source ∷ w)) (sym seen) ∙ f.different);
+      fresh = false_from_ne_true (has hop.contact.to (r.source ∷ receivers p q)) (different_last (r.source ∷ receivers p q) hop.contact.to (ap (λ w. are_different (r.source ∷ w)) (sym seen) ∙ f.different));
       ready = ready.0;
       there_at = ready.1;
       arrived = arrived.0;

@@ -1,14 +1,13 @@
 -- Chains with which routes may begin and continue.
 use Rattle.std.proofs.Common.{◌≡◌, ℕ, false, ◌||◌, not, eqb, List, [], ◌∷◌, ◌++◌, refl, sym, ap, subst, ◌∙◌, arith, length-append, append_assoc}
 use Rattle.std.specs.Prelude.{IsTrue}
-use Rattle.std.specs.Option.{option_and_then}
 use Rattle.std.proofs.lemmas.Bool.{and_parts, and_from, or_from, eqb-true, not-true, not_from_false, false_from_ne_true, both_ways}
 use Rattle.std.proofs.lemmas.List.Folds.{list_any-append}
-use Rattle.std.specs.declared.option.Option.{Option}
-use Rattle.std.specs.declared.option.Option.TheVariants.{Some, None}
+use Rattle.std.specs.declared.option.Option.TheVariants.{Some}
 use Rattle.sabr_model.specs.plan.Plan.{ContactPlan, has, are_different}
 use Rattle.sabr_model.specs.routes.Arrival.{RouteRequest}
 use Rattle.sabr_model.specs.routes.Route.{chain_end, receivers, is_path, is_prefix, is_route}
+use Rattle.sabr_model.proofs.ListLemmas.Answered.{had_value}
 use Rattle.sabr_model.proofs.RouteLemmas.Routes.{route_facts, empty_route}
 use Rattle.sabr_model.proofs.ListLemmas.Begins.{chain_end-append, receivers-append, end_is_received, different_apart}
 use Rattle.sabr_model.proofs.RouteLemmas.Paths.{path_from_facts, beginning_is_path, route_is_path, route_from_path, hop_facts, receivers_push, chain_end_push}
@@ -58,16 +57,12 @@ pub beginning_is_prefix : (p : ContactPlan) (r : RouteRequest) (q : List ℕ) (n
 beginning_is_prefix p r q n t route =
     let f = route_facts p r (q ++ n ∷ t) route in
     let path = beginning_is_path p r q (n ∷ t) (route_is_path p r (q ++ n ∷ t) route) in
-    let onward = reached (chain_end p r.source q) (λ b. chain_end p b (n ∷ t)) r.destination (sym (chain_end-append p r.source q (n ∷ t)) ∙ f.reaches) in
-    let received = end_is_received p onward.0 n t r.destination onward.1 in
+    let onward = had_value (λ b. chain_end p b (n ∷ t)) (chain_end p r.source q) r.destination (sym (chain_end-append p r.source q (n ∷ t)) ∙ f.reaches) in
+    let received = end_is_received p onward.0 n t r.destination onward.2 in
     let different = and_parts (not (has r.source (receivers p (q ++ n ∷ t)))) (are_different (receivers p (q ++ n ∷ t))) f.different in
     prefix_from_path p r q path
     (false_from_ne_true (has r.destination (receivers p q)) (λ h.
     different_apart (receivers p q) (receivers p (n ∷ t)) r.destination (ap are_different (sym (receivers-append p q (n ∷ t))) ∙ different.1) h received))
-  where
-    reached : (o : Option ℕ) (f : ℕ → Option ℕ) (b : ℕ) → option_and_then f o ≡ Some b → (a : ℕ) × (f a ≡ Some b)
-    reached None f b e = absurd cc
-    reached (Some a) f b e = (a, e)
 
 -- a proper beginning of a route, with the next hop, is a path
 pub beginning_goes_on : (p : ContactPlan) (r : RouteRequest) (q : List ℕ) (n : ℕ) (t : List ℕ) → IsTrue (is_route p r (q ++ n ∷ t)) → IsTrue (is_path p r (q ++ n ∷ []))

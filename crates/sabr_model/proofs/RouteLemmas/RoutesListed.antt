@@ -5,7 +5,7 @@ use Rattle.sabr_model.specs.routes.Route.{is_route, by_key}
 use Rattle.sabr_model.specs.routes.Listing.{candidates, routes, lists_of_length}
 use Rattle.sabr_model.specs.Laws.{RoutesAreListed, CandidatesAreListed}
 use Rattle.sabr_model.proofs.ListLemmas.Members.{in_filter, filter_in, in_from_Contains, Contains-from_in, IsIn, in_range, flat_map_in, map_in}
-use Rattle.sabr_model.proofs.ListLemmas.Ordered.{sorted_in_order, in_order_is_in, is_in_order}
+use Rattle.sabr_model.proofs.ListLemmas.Ordered.{all_weaker, sorted_in_order, in_order_is_in, is_in_order}
 use Rattle.sabr_model.proofs.ListLemmas.Apart.{apart-none_twice, apart-sorted, same_numbers_tell, AreApart, apart-filter, apart-map, apart-flat_map}
 use Rattle.sabr_model.proofs.RouteLemmas.Routes.{route_facts}
 use Rattle.sabr_model.proofs.RouteLemmas.Listed.{route_is_candidate, key_total, key_tells, is_candidate}
@@ -81,12 +81,10 @@ apart-candidates n =
 -- ---- the candidates
 
 all_from_range : (n : ℕ) (s : List ℕ) → AllByRecursion (λ m. IsIn m (range_with_len 1 n)) s → AllByRecursion (λ m. (0 < m) × (m ≤ n)) s
-all_from_range n [] all = tt
-all_from_range n (m ∷ s) all = let w = range_in m 1 n all.0 in ((omega (arith, w.0), omega (arith, w.1)), all_from_range n s all.1)
+all_from_range n s all = all_weaker (λ m. IsIn m (range_with_len 1 n)) (λ m. (0 < m) × (m ≤ n)) (λ m i. let w = range_in m 1 n i in (omega (arith, w.0), omega (arith, w.1))) s all
 
 all_to_range : (n : ℕ) (s : List ℕ) → AllByRecursion (λ m. (0 < m) × (m ≤ n)) s → AllByRecursion (λ m. IsIn m (range_with_len 1 n)) s
-all_to_range n [] all = tt
-all_to_range n (m ∷ s) all = let w = all.0 in (in_range m 1 n (omega (arith, w.0)) (omega (arith, w.1)), all_to_range n s all.1)
+all_to_range n s all = all_weaker (λ m. (0 < m) × (m ≤ n)) (λ m. IsIn m (range_with_len 1 n)) (λ m w. in_range m 1 n (omega (arith, w.0)) (omega (arith, w.1))) s all
 
 candidate_facts : (n : ℕ) (s : List ℕ) → IsIn s (candidates n) → IsTrue (are_different s) × AllByRecursion (λ m. (0 < m) × (m ≤ n)) s
 unfolding candidates
