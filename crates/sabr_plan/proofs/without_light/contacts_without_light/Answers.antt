@@ -1,4 +1,4 @@
-use Rattle.std.proofs.Common.{◌≡◌, ℕ, ◌<◌, ◌≤◌, ◌∙◌, Bool, true, false, not, cond, get_or, length, refl, ap, sym, arith, ◌+◌, [], ◌∷◌, length-append, take, filter}
+use Rattle.std.proofs.Common.{◌≡◌, ℕ, ◌<◌, ◌≤◌, ◌∙◌, Bool, true, false, not, cond, get_or, length, refl, ap, sym, arith}
 use Rattle.std.specs.Prelude.{is_none, is_some}
 use mir.Val.{bool_byte}
 use Rattle.std.specs.declared.option.Option.{Option}
