@@ -1,5 +1,5 @@
 -- Lists in which no element occurs twice.
-use Rattle.std.proofs.Common.{◌≡◌, ℕ, Bool, true, false, cond, not, List, [], ◌∷◌, ◌++◌, map, refl, sym, subst, inl, inr, ⊎_elim}
+use Rattle.std.proofs.Common.{◌≡◌, ℕ, Bool, true, not, List, [], ◌∷◌, ◌++◌, map, refl, sym, subst, inl, inr, ⊎_elim}
 use Rattle.std.specs.List.{filter, flat_map, list_any}
 use Rattle.std.specs.List.Sorted.{IsStrictlySortedBy}
 use Rattle.std.specs.Ordering.{is_eq}
@@ -7,7 +7,7 @@ use Rattle.std.specs.Cmp.{IsTotalOrder, tied_itself}
 use Rattle.std.specs.FinMap.{slice_cmp-IsAntisymmetric, nat_cmp-IsAntisymmetric}
 use Rattle.std.specs.declared.cmp.Ordering.{Ordering}
 use Rattle.std.specs.declared.cmp.Ordering.TheVariants.{Less, Equal, Greater}
-use Rattle.std.proofs.lemmas.Bool.{and_from, or_cases, not_from_false, false_from_ne_true}
+use Rattle.std.proofs.lemmas.Bool.{and_from, or_cases, not_from_false, false_from_ne_true, cond_both}
 use Rattle.sabr_model.specs.Order.{by_numbers, same_numbers}
 use Rattle.sabr_model.specs.plan.Plan.{none_twice}
 use Rattle.sabr_model.proofs.ListLemmas.Members.{IsIn, filter_in, flat_map_in, map_in, append_cases, all_in}
@@ -26,10 +26,8 @@ module _ {X : Type 0} where
   pub apart-filter : (test : X → Bool) (xs : List X) → AreApart xs → AreApart (filter test xs)
   apart-filter test [] a = tt
   apart-filter test (x ∷ xs) a =
-      elim (test x) as (λ b. AreApart (cond b (x ∷ filter test xs) (filter test xs))) [
-        | true ↦ (λ i. a.0 (filter_in test x xs i).0, apart-filter test xs a.1)
-        | false ↦ apart-filter test xs a.1
-      ]
+      let rest = apart-filter test xs a.1 in
+      cond_both (test x) (x ∷ filter test xs) (filter test xs) AreApart (λ _. ((λ i. a.0 (filter_in test x xs i).0), rest)) (λ _. rest)
 
   pub apart-map : {Y : Type 0} (f : X → Y) → ((x y : X) → f x ≡ f y → x ≡ y) → (xs : List X) → AreApart xs → AreApart (map f xs)
   apart-map f one [] a = tt

@@ -1,5 +1,5 @@
 -- A plan's ranges in order, and what a count of the ranges that come by a second tells.
-use Rattle.std.proofs.Common.{◌≡◌, ℕ, zero, suc, ◌-◌, ◌<◌, ◌≤◌, Bool, true, false, cond, ◌||◌, ◌&&◌, not, eqb, ltb, leb, List, [], ◌∷◌, length, get_or, map, refl, sym, ap, subst, ◌∙◌, inl, inr, arith}
+use Rattle.std.proofs.Common.{◌≡◌, ℕ, zero, suc, ◌-◌, ◌<◌, ◌≤◌, Bool, true, false, cond, ◌&&◌, not, eqb, ltb, leb, List, [], ◌∷◌, length, get_or, map, refl, sym, ap, subst, ◌∙◌, inl, inr, arith}
 use Rattle.std.proofs.lemmas.List.{get_or-map, get_or_default, length-map}
 use Rattle.std.proofs.lemmas.Map.Keys.{Less-from_sorted}
 use Rattle.std.specs.Prelude.{IfSome}
@@ -225,11 +225,11 @@ module _ (rs : List Range) (h : IsRangeList rs) where
 
 -- a pair's light time is within the limit
 light_limit : (p : ContactPlan) (one other t : ℕ) → AllByRecursion (λ r. r.light ≤ 1000000) p.ranges → IfSome (light_of_pair p.ranges one other t) (λ l. l ≤ 1000000)
-light_limit p one other t h = by (find (in_force one other t) p.ranges) refl
-  where
-    by : (o : Option Range) → find (in_force one other t) p.ranges ≡ o → IfSome (option_map (λ (r : Range). r.light) (find (in_force one other t) p.ranges)) (λ l. l ≤ 1000000)
-    by None e = subst (λ (o : Option Range). IfSome (option_map (λ r. r.light) o) (λ l. l ≤ 1000000)) (sym e) tt
-    by (Some r) e = subst (λ (o : Option Range). IfSome (option_map (λ r. r.light) o) (λ l. l ≤ 1000000)) (sym e) (all_found (λ s. s.light ≤ 1000000) (in_force one other t) p.ranges r h e)
+light_limit p one other t h =
+    elim (find (in_force one other t) p.ranges) as (λ o. find (in_force one other t) p.ranges ≡ o → IfSome (option_map (λ (r : Range). r.light) o) (λ l. l ≤ 1000000)) [
+      | None ↦ λ _. tt
+      | Some r ↦ λ e. all_found (λ s. s.light ≤ 1000000) (in_force one other t) p.ranges r h e
+    ] refl
 
 -- the first of two values, each within the limit, is within it
 or_else_limit : (o u : Option ℕ) → IfSome o (λ l. l ≤ 1000000) → IfSome u (λ l. l ≤ 1000000) → IfSome (or_else o u) (λ l. l ≤ 1000000)

@@ -1,6 +1,6 @@
 -- The worked plans obey the rules of plans, and the worked requests are accepted.
 use Rattle.std.specs.Prelude.{[], ◌∷◌}
-use Rattle.std.proofs.Common.{refl, rules, arith}
+use Rattle.std.proofs.Common.{rules}
 use Rattle.std.specs.List.Sorted.{IsStrictlySortedBy}
 use Rattle.sabr_model.specs.plan.Plan.{IsPlan}
 use Rattle.sabr_model.specs.routes.Asking.{IsRequest}

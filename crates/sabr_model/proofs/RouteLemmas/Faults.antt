@@ -1,7 +1,7 @@
 -- A list without a fault is a route, and the reverse.
-use Rattle.std.proofs.Common.{◌≡◌, ℕ, ◌+◌, max, Bool, true, false, cond, not, eqb, leb, ltb, List, [], ◌∷◌, ◌++◌, length, refl, sym, ap, subst, ◌∙◌, arith, append_assoc, min, true≢false, Option, Some, None}
+use Rattle.std.proofs.Common.{◌≡◌, ℕ, ◌+◌, max, Bool, true, false, cond, not, eqb, leb, List, [], ◌∷◌, ◌++◌, length, refl, sym, ap, subst, ◌∙◌, arith, append_assoc, min, true≢false, Option, Some, None}
 use Rattle.std.specs.Prelude.{is_none, IsTrue, ◌==◌}
-use Rattle.std.specs.Option.{option_map, option_map_or, option_and_then}
+use Rattle.std.specs.Option.{option_map_or, option_and_then}
 use Rattle.std.proofs.lemmas.Bool.{eqb-true, eq-eqb, leb-true, le-leb, false_from_ne_true, not-false}
 use Rattle.std.specs.declared.option.Option.{Option}
 use Rattle.std.specs.declared.option.Option.TheVariants.{Some, None}
@@ -10,7 +10,7 @@ use Rattle.sabr_model.specs.declared.fault.HopFault.{HopFault}
 use Rattle.sabr_model.specs.declared.fault.HopFault.TheVariants.{NoSuchContact, NotChained, NodeAgain, NoLight, TooLate, WrongEnd, AvoidedNode, TooManyHops}
 use Rattle.sabr_model.specs.plan.Plan.{ContactPlan, contact_named, has}
 use Rattle.sabr_model.specs.plan.Light.{light_of}
-use Rattle.sabr_model.specs.routes.Arrival.{RouteRequest, arrival, arrival_after, cost}
+use Rattle.sabr_model.specs.routes.Arrival.{RouteRequest, arrival, arrival_after}
 use Rattle.sabr_model.specs.routes.Route.{chain_end, receivers, ends_at, is_path, is_route, contacts_of, until_of, entry_of}
 use Rattle.sabr_model.specs.routes.Fault.{contact_fault, fault_at, fault_or, first_fault, fault_of}
 use Rattle.sabr_model.specs.Laws.{FaultsTellRoutes}

@@ -1,13 +1,13 @@
 -- Steps of following a list of contacts.
-use Rattle.std.proofs.Common.{◌≡◌, ◌≢◌, ℕ, IfSome, ◌+◌, ◌*◌, ◌/◌, ◌%◌, ◌^◌, ◌<◌, ◌≤◌, Bool, false, true, cond, ◌||◌, eqb, List, [], ◌∷◌, ◌++◌, map, length, take, drop, get_or, replicate, slice_get, slice_index_or, slice_set, bit_and, bit_or, w64, zero, suc, inl, inr, refl, sym, ap, subst, ◌∙◌, append_assoc, append-nil, take-append-drop, arith, add-one, drop-cons}
+use Rattle.std.proofs.Common.{◌≡◌, ◌≢◌, ℕ, IfSome, ◌+◌, ◌*◌, ◌/◌, ◌%◌, ◌^◌, ◌<◌, ◌≤◌, Bool, false, true, cond, ◌||◌, eqb, List, [], ◌∷◌, ◌++◌, map, length, take, drop, get_or, replicate, slice_get, slice_index_or, slice_set, bit_and, bit_or, w64, zero, suc, inl, inr, refl, sym, ap, ◌∙◌, append_assoc, append-nil, take-append-drop, arith, add-one, drop-cons}
 use Rattle.std.specs.Prelude.{IsTrue}
 use Rattle.std.specs.Int.{bit_at}
 use Rattle.std.specs.List.{list_any, cons_option}
 use Rattle.std.specs.Option.{option_map_or}
 use Rattle.std.specs.declared.option.Option.TheVariants.{Some, None}
 use Rattle.std.proofs.Math.Nat.{mod-lt}
-use Rattle.std.proofs.lemmas.Bool.{cases_Bool, eq-eqb, eqb-true, false_from_ne_true, ne_eqb}
-use Rattle.std.proofs.lemmas.List.{take_all, take_more, drop_all, get_or-set_same, get_or-set_other}
+use Rattle.std.proofs.lemmas.Bool.{cases_Bool, eq-eqb, eqb-true, false_from_ne_true, ne_eqb, or_right}
+use Rattle.std.proofs.lemmas.List.{get_or-set_same, get_or-set_other}
 use Rattle.std.proofs.lemmas.List.Folds.{list_any-append}
 use Rattle.std.proofs.lemmas.Nat.Bits.{bit_at-zero, bit_at_set_same, bit_at_set_other, shr_and_one}
 use Rattle.sabr_model.specs.declared.contact.Contact.{Contact}
@@ -28,10 +28,9 @@ use Rattle.sabr_model.proofs.ListLemmas.Begins.{receivers-append, receivers-cons
 use Rattle.sabr_model.proofs.ListLemmas.Members.{all_in}
 use Rattle.sabr_model.proofs.PlanLemmas.RangeOrder.{light_of_limit}
 use Rattle.sabr_model.proofs.PlanLemmas.Tabled.{place_one}
-use Rattle.sabr_model.proofs.RouteLemmas.Faults.{good_is_hop, good_is_path, path_is_good}
+use Rattle.sabr_model.proofs.RouteLemmas.Faults.{good_is_hop, path_is_good}
 use Rattle.sabr_model.proofs.RouteLemmas.Listed.{named_is}
 use Rattle.sabr_model.proofs.RouteLemmas.Paths.{chain_end_push, arrival_after_push, path_push, route_from_path}
-use Rattle.sabr_model.proofs.RouteLemmas.Prefixes.{empty_is_path}
 
 -- the contact with a number ends in time
 pub ends_in_time : (p : ContactPlan) (n : ℕ) (c : Contact) → IsPlan p → contact_named p n ≡ Some c → c.end ≤ last_time
@@ -133,20 +132,12 @@ met_more p front n k c old new tabled named there before this others j node at =
       | inl same ↦
           let e : j ≡ k = eqb-true j k same in
           let node_is : node ≡ c.to = (let q : Some node ≡ Some c.to = sym at ∙ ap (slice_get p.table) e ∙ there in cc (q)) in
-          rw (e, this, eq-eqb node c.to node_is) (or_true (has node (receivers p.plan front)))
+          rw (e, this, eq-eqb node c.to node_is) (sym (or_right (has node (receivers p.plan front)) true refl))
       | inr apart ↦
           let other : j ≢ k = λ e. (let t : eqb j k ≡ true = eq-eqb j k e in let no : ⊥ = cc in no) in
           let differs : eqb node c.to ≡ false = false_from_ne_true (eqb node c.to) (λ e. other (place_one p.table j k node tabled.once at (there ∙ ap Some (sym (eqb-true node c.to e))))) in
-          rw (others j other, differs, before j node at) (or_false (has node (receivers p.plan front)))
+          rw (others j other, differs, before j node at) (elim (has node (receivers p.plan front)) as (λ b. b ≡ (b || false)) [ true ↦ refl | false ↦ refl ])
     ])
-  where
-    or_true : (b : Bool) → true ≡ (b || (true || false))
-    or_true true = refl
-    or_true false = refl
-
-    or_false : (b : Bool) → b ≡ (b || (false || false))
-    or_false true = refl
-    or_false false = refl
 
 -- a number without a contact adds no node
 pub met_still : (p : TabledPlan) (front : List ℕ) (n : ℕ) (met : NodeSet) → contact_named p.plan n ≡ None → AreMet p met front → AreMet p met (front ++ n ∷ [])

@@ -1,11 +1,11 @@
 -- Every route is a candidate, and the key orders routes.
-use Rattle.std.proofs.Common.{◌≡◌, ℕ, ◌+◌, ◌<◌, ◌≤◌, true, false, not, eqb, List, [], ◌∷◌, length, map, refl, sym, ap, subst, ◌∙◌, inl, inr, ⊎_elim, arith}
+use Rattle.std.proofs.Common.{◌≡◌, ℕ, ◌+◌, ◌<◌, ◌≤◌, true, false, not, eqb, List, [], ◌∷◌, length, map, refl, sym, ap, ◌∙◌, inl, inr, ⊎_elim, arith}
 use Rattle.std.specs.Prelude.{nat_eq}
 use Rattle.std.specs.List.{filter, find, range_with_len, AllByRecursion, IsDistinct}
 use Rattle.std.specs.Cmp.{IsTotalOrder, nat_eq_equiv}
 use Rattle.std.specs.Cmp.Lexicographic.{on_texts}
 use Rattle.std.specs.FinMap.{slice_cmp-IsAntisymmetric, nat_cmp-IsAntisymmetric}
-use Rattle.std.proofs.lemmas.Bool.{and_parts, and_from, or_cases, or_parts, or_left, or_right, eqb-true, eq-eqb, not-true, not_from_false, both_ways, false_from_ne_true}
+use Rattle.std.proofs.lemmas.Bool.{and_parts, and_from, or_cases, or_left, or_right, eqb-true, eq-eqb, not-true, not_from_false, both_ways, false_from_ne_true}
 use Rattle.std.proofs.lemmas.Map.Made.{length-le_from_is_member}
 use Rattle.std.proofs.lemmas.List.FromFn.{length-range_with_len}
 use Rattle.std.specs.declared.option.Option.TheVariants.{Some}
@@ -16,6 +16,7 @@ use Rattle.sabr_model.specs.routes.Arrival.{RouteRequest}
 use Rattle.sabr_model.specs.routes.Route.{chain_end, receivers, IsRoute, key_of, by_key}
 use Rattle.sabr_model.specs.routes.Listing.{lists_of_length, candidates}
 use Rattle.sabr_model.proofs.ListLemmas.Members.{IsIn, all_in, find_in, in_map, in_flat_map, in_filter, in_range}
+use Rattle.sabr_model.proofs.PlanLemmas.Deletions.{any_none}
 use Rattle.sabr_model.proofs.PlanLemmas.Without.{all_above}
 use Rattle.sabr_model.proofs.ListLemmas.Begins.{first_hop, receivers-cons}
 
@@ -38,26 +39,18 @@ is_among_lists numbers (n ∷ s) d all =
     (is_among_lists numbers s parts.1 all.1)
     (in_map (λ m. m ∷ s) n (filter (λ m. not (has m s)) numbers) (in_filter (λ m. not (has m s)) n numbers all.0 parts.0))
 
-none_equal : (n : ℕ) (s : List ℕ) → has n s ≡ false → AllByRecursion (λ y. nat_eq n y ≡ false) s
-none_equal n [] h = tt
-none_equal n (y ∷ s) h = let parts = or_parts (eqb n y) (has n s) h in (parts.0, none_equal n s parts.1)
-
 pub distinct_from_different : (s : List ℕ) → are_different s ≡ true → IsDistinct nat_eq s
 unfolding IsDistinct
 distinct_from_different [] d = tt
 distinct_from_different (n ∷ s) d =
     let parts = and_parts (not (has n s)) (are_different s) d in
-    (none_equal n s (not-true (has n s) parts.0), distinct_from_different s parts.1)
-
-all_have : (numbers s : List ℕ) → AllByRecursion (λ n. IsIn n numbers) s → (q : ℕ) → has q s ≡ true → has q numbers ≡ true
-all_have numbers [] all q h = absurd cc
-all_have numbers (n ∷ s) all q h =
-    ⊎_elim (λ e. has_from_in q numbers (subst (λ w. IsIn w numbers) (sym (eqb-true q n e)) all.0)) (λ k. all_have numbers s all.1 q k) (or_cases (eqb q n) (has q s) h)
+    (any_none (eqb n) s (not-true (has n s) parts.0), distinct_from_different s parts.1)
 
 pub is_candidate : (n : ℕ) (s : List ℕ) → are_different s ≡ true → AllByRecursion (λ m. IsIn m (range_with_len 1 n)) s → IsIn s (candidates n)
 unfolding candidates
 is_candidate n s d all =
-    let short : length s ≤ length (range_with_len 1 n) = length-le_from_is_member nat_eq_equiv s (range_with_len 1 n) (distinct_from_different s d) (all_have (range_with_len 1 n) s all) in
+    let short : length s ≤ length (range_with_len 1 n) = length-le_from_is_member nat_eq_equiv s (range_with_len 1 n) (distinct_from_different s d)
+    (λ q h. has_from_in q (range_with_len 1 n) (all_in (λ m. IsIn m (range_with_len 1 n)) s all q (in_from_has q s h))) in
     in_flat_map (lists_of_length (range_with_len 1 n)) s (length s) (range_with_len 0 (n + 1))
     (in_range (length s) 0 (n + 1) (omega arith) (omega (arith, short, length-range_with_len 1 n)))
     (is_among_lists (range_with_len 1 n) s d all)

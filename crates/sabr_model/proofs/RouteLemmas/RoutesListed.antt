@@ -9,7 +9,7 @@ use Rattle.sabr_model.proofs.ListLemmas.Ordered.{all_weaker, sorted_in_order, in
 use Rattle.sabr_model.proofs.ListLemmas.Apart.{apart-none_twice, apart-sorted, same_numbers_tell, AreApart, apart-filter, apart-map, apart-flat_map}
 use Rattle.sabr_model.proofs.RouteLemmas.Routes.{route_facts}
 use Rattle.sabr_model.proofs.RouteLemmas.Listed.{route_is_candidate, key_total, key_tells, is_candidate}
-use Rattle.std.proofs.Common.{◌≡◌, ℕ, zero, suc, ◌+◌, ◌<◌, ◌≤◌, true, not, List, [], ◌∷◌, length, map, refl, sym, subst, ◌∙◌, ⊎_elim, arith}
+use Rattle.std.proofs.Common.{◌≡◌, ℕ, zero, suc, ◌+◌, ◌<◌, ◌≤◌, true, not, List, ◌∷◌, length, map, refl, sym, subst, ◌∙◌, ⊎_elim, arith}
 use Rattle.std.specs.Prelude.{IsTrue}
 use Rattle.std.proofs.lemmas.Bool.{and_from}
 use Rattle.sabr_model.specs.plan.Plan.{has, are_different}
