@@ -3,7 +3,7 @@
 ghost use Rattle.std.specs.Prelude.{◌≡◌, ◌≤◌, ℕ, [], IfOk, min, slice_index};
 ghost use Rattle.sabr_model.specs.plan.Plan.{TabledPlan};
 ghost use Rattle.sabr_model.specs.routes.Arrival.{RouteRequest};
-ghost use Rattle.sabr_search.specs.layers.NodeBounds.{AreLateFor, AreNodeBounds, AreSoonFor};
+ghost use Rattle.sabr_search.specs.layers.NodeBounds.{AreDeadlinesFor, AreNodeBounds, AreSoonFor};
 ghost use Rattle.sabr_search.specs.layers.Relaxation.{IsWholeGraph};
 ghost use Rattle.sabr_search.specs.questions.FirstSteps.{tabled_of};
 ghost use Rattle.sabr_search.specs.questions.Task.{IsAsked, IsBehind, never};
@@ -47,7 +47,7 @@ fn soonest_of<A: Allocator + Copy>(
 ) -> Result<Vec<u64, A>, Stopped>
     requires whole { IsWholeGraph task.now }
     requires source { IsBehind task.now [] }
-    requires deadline { AreLateFor (tabled_of task.now) task.now.request never deadline.now }
+    requires deadline { AreDeadlinesFor (tabled_of task.now) task.now.request never deadline.now }
     ensures soon { IfOk result (λ v. AreSoonFor (tabled_of task.now) task.now.request v.items) }
 {
     let forward = Forward {
@@ -109,7 +109,7 @@ impl<A: Allocator + Copy> NodeBounds<A> {
 
     /// For each node, a second from which on no way delivers before `until`; none is known after the list's end.
     pub fn deadlines_for(&self, until: u64) -> &[u64]
-        ensures { (p : TabledPlan) (r : RouteRequest) → AreNodeBounds p r self.now → AreLateFor p r until result.now }
+        ensures { (p : TabledPlan) (r : RouteRequest) → AreNodeBounds p r self.now → AreDeadlinesFor p r until result.now }
     {
         if let Some(last) = self.until
             && until <= last

@@ -185,7 +185,7 @@ impl<A: Allocator + Copy> Search<A> {
         let Some(place) = cached? else {
             return Ok(None);
         };
-        Ok(memory.answers.recall_at(place, asked, looks))
+        memory.answers.recall_at(place, asked, looks)
     }
 
     /// Tries to answer a question without its own search: from the cache, by the layers for its floor, or by a wide
@@ -196,7 +196,7 @@ impl<A: Allocator + Copy> Search<A> {
         memory: &mut Memory<A>,
         asked: &Question<'_, '_, '_, A>,
         looks: &mut Looks,
-    ) -> Result<Option<Early<A>>, NoMemory>
+    ) -> Result<Option<Early<A>>, Stopped>
         requires asked { IsAsked asked.now.task.now asked.now.prefix.now }
         requires floor { IsNoneSooner asked.now.task.now (hops_left asked.now) asked.now.floor }
         requires memory { IsMemory (tabled_of asked.now.task.now) asked.now.task.now.request memory.old }
@@ -211,7 +211,7 @@ impl<A: Allocator + Copy> Search<A> {
             };
             return Ok(Some(Early::Found(found)));
         }
-        let recalled = memory.answers.recall(asked, looks);
+        let recalled = memory.answers.recall(asked, looks)?;
         if let Some(place) = recalled.place {
             return Ok(Some(Early::Cached(place)));
         }
@@ -221,12 +221,10 @@ impl<A: Allocator + Copy> Search<A> {
         let Some(breadth) = memory.wide_questions.next(recalled.near, asked)? else {
             return Ok(None);
         };
-        match self.find_wide(memory, asked, looks, breadth) {
-            Ok(Some(place)) => Ok(Some(Early::Cached(place))),
-            Ok(None) => Ok(None),
-            Err(Stopped::NoLooks) => Ok(None),
-            Err(Stopped::NoMemory) => Err(NoMemory),
-        }
+        let Some(place) = self.find_wide(memory, asked, looks, breadth)? else {
+            return Ok(None);
+        };
+        Ok(Some(Early::Cached(place)))
     }
 
     /// The best route after the prefix up to the bound: by an early answer, or else by the question's own search, whose
@@ -256,9 +254,8 @@ impl<A: Allocator + Copy> Search<A> {
         let aside = looks.set_aside(2 * asked.task.one_scan());
         let found = self.find_early(memory, asked, looks);
         looks.put_back(aside);
-        let early = found?;
-        match early {
-            Some(Early::Cached(place)) => {
+        match found {
+            Ok(Some(Early::Cached(place))) => {
                 let answer = &memory.answers.slots[place];
                 memory.wide_questions.count_answer(answer.breadth);
                 match &answer.found {
@@ -268,8 +265,9 @@ impl<A: Allocator + Copy> Search<A> {
                     Found::Beyond(above) => return Ok(asked.above(*above)),
                 }
             }
-            Some(Early::Found(found)) => return asked.answer(self.alloc, looks, &found),
-            None => {}
+            Ok(Some(Early::Found(found))) => return asked.answer(self.alloc, looks, &found),
+            Ok(None) | Err(Stopped::NoLooks) => {}
+            Err(Stopped::NoMemory) => return Err(NoMemory),
         }
         let before = looks.left();
         let found = match self.run(asked, &memory.node_bounds, looks) {

@@ -12,7 +12,7 @@ use Rattle.sabr_search.specs.questions.Task.{SearchTask, IsBehind, IsOfRequest, 
 use Rattle.sabr_search.specs.questions.PrefixPath.{IsStop}
 use Rattle.sabr_search.specs.questions.FirstSteps.{tabled_of, Leads}
 use Rattle.sabr_search.specs.layers.Late.{AreSince, IsNoneSooner}
-use Rattle.sabr_search.specs.layers.NodeBounds.{AreSoonFor, Goes, IsBetween, AreLateFor, AreCostsFor}
+use Rattle.sabr_search.specs.layers.NodeBounds.{AreSoonFor, Goes, IsBetween, AreDeadlinesFor, AreCostsFor}
 use Rattle.sabr_search.proofs.WayLemmas.Prefixes.{IsPrefix, prefix_facts}
 use Rattle.sabr_search.proofs.WayLemmas.Chains.{arrival_after-append, all_of, has_either}
 use Rattle.sabr_search.proofs.WayLemmas.RoutesAndWays.{same_some, way_from_chain, IsChain, chain_of_way, takes_timely}
@@ -105,7 +105,7 @@ goes_of task over n u t w b s = record {
 }
 
 -- what is known of the ways over the whole graph is so of a question's ways
-pub bounds_of_nodes : (task : SearchTask) → HasNodes task.plan task.table → IsOfRequest task → (until : ℕ) (deadline costs : List ℕ) → AreLateFor (tabled_of task) task.request until deadline → AreCostsFor (tabled_of task) task.request costs → IsBound task until deadline costs
+pub bounds_of_nodes : (task : SearchTask) → HasNodes task.plan task.table → IsOfRequest task → (until : ℕ) (deadline costs : List ℕ) → AreDeadlinesFor (tabled_of task) task.request until deadline → AreCostsFor (tabled_of task) task.request costs → IsBound task until deadline costs
 bounds_of_nodes task nodes over until deadline costs are_late are_costs = record {
   goal = are_late.goal task.goal over.goal_is;
   steps = λ n u t w b s open' other. are_late.steps n u t w b (goes_of task over n u t w b s) (between n u t w b s open' other);

@@ -12,7 +12,7 @@ use Rattle.sabr_model.specs.routes.Arrival.{RouteRequest, cost}
 use Rattle.sabr_search.specs.declared.visit.Visit.{Visit}
 use Rattle.sabr_search.specs.questions.Task.{SearchTask, IsTask, IsBehind, Takes, never}
 use Rattle.sabr_search.specs.questions.FirstSteps.{tabled_of}
-use Rattle.sabr_search.specs.layers.NodeBounds.{Goes, IsBetween, AreLateFor, AreCostsFor}
+use Rattle.sabr_search.specs.layers.NodeBounds.{Goes, IsBetween, AreDeadlinesFor, AreCostsFor}
 use Rattle.sabr_search.specs.declared.backward.relaxation.Backward.{Backward}
 use Rattle.sabr_search.specs.declared.backward.relaxation.Relaxation.{Relaxation}
 use Rattle.sabr_search.specs.declared.backward.relaxation.Rule.{Rule}
@@ -242,7 +242,7 @@ goal_begun task is until s begun =
     ap (λ xs. slice_index xs task.goal) begun.seconds_are ∙ get_or-set_same zeros task.goal until 0 (omega (arith, length-replicate {A = ℕ} (length task.forbidden) 0, is.as_many, is.goal_in))
 
 -- so these are seconds from which on no way delivers before that one
-pub deadlines_for : (task : SearchTask) → IsWholeGraph task → (until : ℕ) (deadline : List ℕ) → until ≤ slice_index deadline task.goal → AreAllRelaxed Passes task deadline → AreLateFor (tabled_of task) task.request until deadline
+pub deadlines_for : (task : SearchTask) → IsWholeGraph task → (until : ℕ) (deadline : List ℕ) → until ≤ slice_index deadline task.goal → AreAllRelaxed Passes task deadline → AreDeadlinesFor (tabled_of task) task.request until deadline
 deadlines_for task whole until deadline goal are = record {
   goal = λ g at.
       (let same : g ≡ task.goal = whole.is.nodes.apart g task.goal task.request.destination at whole.goal_is in
@@ -282,14 +282,14 @@ costs_for task whole seconds costs until goal are turned = record {
 pub no_costs : (p : TabledPlan) (r : RouteRequest) (costs : List ℕ) → costs ≡ [] → AreCostsFor p r costs
 no_costs p r costs empty = rw empty (record { goal = λ g at. refl; steps = λ n u t w b g between since. omega (arith, arrives_later p.plan r t g.contact b g.arrives) })
 
-pub none_late : (p : TabledPlan) (r : RouteRequest) (until : ℕ) (deadline : List ℕ) → until ≤ never → deadline ≡ [] → AreLateFor p r until deadline
+pub none_late : (p : TabledPlan) (r : RouteRequest) (until : ℕ) (deadline : List ℕ) → until ≤ never → deadline ≡ [] → AreDeadlinesFor p r until deadline
 none_late p r until deadline fits empty = rw empty (record {
   goal = λ g at. omega (arith, fits);
   steps = λ n u t w b g between late_there. omega (arith, late_there, arrives_later p.plan r t g.contact b g.arrives);
 })
 
 -- what is too late for a second is so for each before it
-pub late_before : (p : TabledPlan) (r : RouteRequest) (until by : ℕ) (deadline : List ℕ) → by ≤ until → AreLateFor p r until deadline → AreLateFor p r by deadline
+pub late_before : (p : TabledPlan) (r : RouteRequest) (until by : ℕ) (deadline : List ℕ) → by ≤ until → AreDeadlinesFor p r until deadline → AreDeadlinesFor p r by deadline
 late_before p r until by deadline before are = record { goal = λ g at. omega (arith, before, are.goal g at); steps = are.steps }
 
 -- the whole graph, as the question of the empty prefix

@@ -86,17 +86,17 @@ module _ (task : SearchTask) (is : IsTask task) (until : ℕ) (bounds costs : Li
   goal_known : (a : ℕ) → IsKnownAt task.goal a → best.delivery ≤ a
   goal_known a known = elim known [
     | inl s ↦ absurd (both_ways (slice_index_or settled task.goal false) was.goal_unsettled s.0)
-    | inr deadline ↦ omega (arith, deadline.1, bound.goal, by_until)
+    | inr late ↦ omega (arith, late.1, bound.goal, by_until)
   ]
 
   steps_taken : (v a n w b : ℕ) → IsKnownAt v a → Takes task n v a w b → (best.delivery ≤ b + slice_index costs w) ⊎ (((c : ℕ) × (c ≤ b) × IsKnownAt w c) ⊎ ((c : ℕ) × (c ≤ b) × IsWaiting queue w (c + slice_index costs w)))
   steps_taken v a n w b known step = elim known [
-    | inr deadline ↦ elim (cases_eq v task.goal) [
+    | inr late ↦ elim (cases_eq v task.goal) [
       | inl same ↦
-          (let there : IsKnownAt v a = inr deadline in
+          (let there : IsKnownAt v a = inr late in
           let at_goal : IsKnownAt task.goal a = rw same at there in
           inl (omega (arith, goal_known a at_goal, (takes_timely task is.nodes).later n v a w b step)))
-      | inr other ↦ inr (inl (b, omega arith, inr (step.permitted, bound.steps n v a w b step deadline.0 other deadline.1)))
+      | inr other ↦ inr (inl (b, omega arith, inr (step.permitted, bound.steps n v a w b step late.0 other late.1)))
     ]
     | inl s ↦ elim (was.taken v n w b s.0 (rw s.1 step)) [
       | inl over ↦ inl (omega (arith, over))
@@ -121,7 +121,7 @@ module _ (task : SearchTask) (is : IsTask task) (until : ℕ) (bounds costs : Li
       let first = (takes_timely task is.nodes).earlier n u s way.0 way.1 a way.2 by in
       let after : way.1 + slice_index costs way.0 ≤ t + slice_index costs v = costs_fall task is until bounds costs bound ns way.0 way.1 v t way.2.permitted later way.3 in
       elim (steps_taken u a n way.0 first.0 known first.2) [
-        | inl deadline ↦ inl (omega (arith, deadline, first.1, after))
+        | inl late ↦ inl (omega (arith, late, first.1, after))
         | inr found ↦ elim found [
           | inl on ↦ reached_by stop ns way.0 on.0 way.1 v t on.2 (omega (arith, on.1, first.1)) later way.3
           | inr waits ↦ inl (omega (arith, stop waits.2.0 waits.2.1, waits.2.3, waits.1, first.1, after))
@@ -131,19 +131,19 @@ module _ (task : SearchTask) (is : IsTask task) (until : ℕ) (bounds costs : Li
   first_least : ((f : Visit) → Contains queue f → best.delivery ≤ f.at) → IsNoneBefore task best.delivery
   first_least stop ns e way =
       elim (reached_by stop ns task.start task.at task.at task.goal e (inl (was.start_settled, was.start_reached)) (omega arith) bound.since way) [
-        | inl deadline ↦ omega (arith, deadline, bound.there)
+        | inl late ↦ omega (arith, late, bound.there)
         | inr by ↦ omega (arith, by.1, goal_known by.0 by.2)
       ]
 
   known_arrival : (v c : ℕ) → IsKnownAt v c → slice_index arrival v ≤ c
   known_arrival v c known = elim known [
     | inl s ↦ omega (arith, s.1)
-    | inr deadline ↦ omega (arith, was.lowered v deadline.0, deadline.1)
+    | inr late ↦ omega (arith, was.lowered v late.0, late.1)
   ]
 
   arrivals_found : ((f : Visit) → Contains queue f → best.delivery ≤ f.at) → AreArrivalsBy task costs arrival best.delivery
   arrivals_found stop ns v t some way = elim (reached_by stop ns task.start task.at task.at v t (inl (was.start_settled, was.start_reached)) (omega arith) bound.since way) [
-    | inl deadline ↦ omega (arith, deadline)
+    | inl late ↦ omega (arith, late)
     | inr by ↦ omega (arith, by.1, known_arrival v by.0 by.2)
   ]
 
@@ -239,7 +239,7 @@ module _ (task : SearchTask) (is : IsTask task) (off settled : List Bool) (u : �
       lowered = opened_by;
       queue_is = record {
         waits = λ k within open' off' less. absurd (omega (arith, opened.unreached k within open', less));
-        deadline = λ i d lt. absurd (omega (arith, lt));
+        reached = λ i d lt. absurd (omega (arith, lt));
         before = λ i d lt. absurd (omega (arith, lt));
         order = λ i d lt. absurd (omega (arith, lt));
         inside = λ i d lt. absurd (omega (arith, lt));

@@ -56,12 +56,12 @@ lowered_more forbidden goal at begin Given Given' arrival0 reached0 best0 arriva
 
 -- what is known stays known, since arrivals and the best delivery only fall
 pub known_lower : (goal : ℕ) (arrival arrival' : List ℕ) (best best' w x : ℕ) → ((k : ℕ) → slice_index arrival' k ≤ slice_index arrival k) → best' ≤ best → IsKnown goal arrival best w x → IsKnown goal arrival' best' w x
-known_lower goal arrival arrival' best best' w x falls lower (inl deadline) = inl (omega (arith, deadline))
+known_lower goal arrival arrival' best best' w x falls lower (inl late) = inl (omega (arith, late))
 known_lower goal arrival arrival' best best' w x falls lower (inr reached) = inr (reached.0, omega (arith, reached.1, falls w))
 
 -- what is known at some second is known later
 pub known_later : (goal : ℕ) (arrival : List ℕ) (best w x y : ℕ) → x ≤ y → IsKnown goal arrival best w x → IsKnown goal arrival best w y
-known_later goal arrival best w x y le (inl deadline) = inl (omega (arith, deadline))
+known_later goal arrival best w x y le (inl late) = inl (omega (arith, late))
 known_later goal arrival best w x y le (inr reached) = inr (reached.0, omega (arith, reached.1))
 
 -- what comes no earlier than what is news is known

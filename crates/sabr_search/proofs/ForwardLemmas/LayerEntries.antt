@@ -147,7 +147,7 @@ module _ {X : Type 0} (top : ℕ) (bounds : List ℕ) (entries : List X) (are : 
   pub stands_still : (h : ℕ) (x : X) → Stands bounds entries h x → Stands bounds' entries' h x
   stands_still h x e = elim (cases_lt top h) [
     | inr early ↦ (e.0, omega (arith, bound_before h (omega arith), e.1), omega (arith, bound_before (h + 1) (omega arith), e.2), still e.0 x e.3)
-    | inl deadline ↦ absurd (omega (arith, get_or_past bounds (h + 1) 0 (omega (arith, are.many)), e.2))
+    | inl late ↦ absurd (omega (arith, get_or_past bounds (h + 1) 0 (omega (arith, are.many)), e.2))
   ]
 
   -- an entry of an old layer was there
@@ -233,11 +233,11 @@ module _ (T : StepRelation) (timely : IsTimely T) (E : Entries) where
       let first = timely.earlier n v t h.0 h.1 r.1 h.2 r.3 in
       let after : h.1 ≤ e = Leads-later T timely ns h.0 h.1 w e h.3 in
       elim (taken r.0 v r.1 n h.0 first.0 (omega (arith, r.2)) r.4 first.2) [
-        | inl deadline ↦ inl (omega (arith, deadline, first.1, after))
+        | inl late ↦ inl (omega (arith, late, first.1, after))
         | inr found ↦
             let at : ReachedBy E (k + 1) h.0 h.1 = (found.0, found.1, omega (arith, found.2, r.2), omega (arith, found.3, first.1), found.4) in
             elim (reached_on m best taken ns (k + 1) h.0 h.1 w e (omega arith) at h.3) [
-              | inl deadline ↦ inl deadline
+              | inl late ↦ inl late
               | inr last ↦ inr (last.0, last.1, omega (arith, last.2), last.3, last.4)
             ]
       ]
@@ -248,6 +248,6 @@ module _ (T : StepRelation) (timely : IsTimely T) (E : Entries) (start at goal :
   none_sooner m best taken ns e le way =
       let at' : ReachedBy E 0 start at = (0, at, omega arith, omega arith, begins) in
       elim (reached_on T timely E m best taken ns 0 start at goal e (omega (arith, le)) at' way) [
-        | inl deadline ↦ deadline
+        | inl late ↦ late
         | inr found ↦ absurd (never found.0 found.1 found.4)
       ]

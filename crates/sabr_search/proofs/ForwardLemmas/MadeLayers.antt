@@ -92,13 +92,13 @@ module _ (task : SearchTask) (is : IsTask task) (until hop : ℕ) (bounds arriva
   taken' : IsTaken (Takes task) (Entry bounds' reached') (hop + 1) delivery
   taken' j v a n w b less e s = elim (last_or_before j hop less) [
     | inl before ↦ elim (made.taken j v a n w b before (entry_was j v a (omega arith) e) s) [
-      | inl deadline ↦ inl (omega (arith, lowered.lower))
+      | inl late ↦ inl (omega (arith, lowered.lower))
       | inr r ↦ inr (r.0, r.1, r.2, r.3, entry_kept r.0 w r.1 r.4)
     ]
     | inr same ↦
         (let old : Entry bounds reached hop v a = entry_was hop v a (omega arith) (rw same at e) in
         elim (known old.0 (record { node = v; at = a }) n w b old.1 old.2 old.3 s) [
-          | inl deadline ↦ inl deadline
+          | inl late ↦ inl late
           | inr found ↦
               (let r = reached_by w b s.permitted (omega (arith, lowered.lists.flags, is.as_many, slice_get_within task.table w s.contact.to s.receiver)) found.1 (omega (arith, takes_early task is n v a w b s)) in
               inr (r.0, r.1, omega (arith, r.2), r.3, r.4))
@@ -118,7 +118,7 @@ module _ (task : SearchTask) (is : IsTask task) (until hop : ℕ) (bounds arriva
   real' : (h v a : ℕ) → Entry bounds' reached' h v a → (ns : List ℕ) × (length ns ≡ h) × Leads (Takes task) task.start task.at ns v a
   real' h v a e = elim (cases_lt hop h) [
     | inr early ↦ made.real h v a (entry_was h v a early e)
-    | inl deadline ↦ elim (cases_eq h (hop + 1)) [
+    | inl late ↦ elim (cases_eq h (hop + 1)) [
       | inr later ↦ absurd (omega (arith, get_or_past bounds' (h + 1) 0 (omega (arith, next.many)), e.2))
       | inl here ↦
           (let d : Visit = record { node = v; at = a } in
@@ -241,7 +241,7 @@ module _ (task : SearchTask) (is : IsTask task) (until hop : ℕ) (bounds arriva
       all j v a n w b less (inr past) s = absurd (omega (arith, past.0))
       all j v a n w b less (inl en) s = elim (last_or_before j hop less) [
         | inl before ↦ elim (made.taken j v a n w b before en s) [
-          | inl deadline ↦ inl (omega (arith, deadline, lower))
+          | inl late ↦ inl (omega (arith, late, lower))
           | inr r ↦ inr (r.0, r.1, r.2, r.3, inl r.4)
         ]
         | inr same ↦ elim (cases_eq w task.goal) [
@@ -259,7 +259,7 @@ module _ (task : SearchTask) (is : IsTask task) (until hop : ℕ) (bounds arriva
       let early : a < never = omega (arith, timely.later n u a task.goal delivery s, takes_early task is n u a task.goal delivery s) in
       let en = entry_of made.lists made.bounds_are u within permitted early in
       elim (last_or_before en.0 hop (omega (arith, en.1))) [
-        | inl before ↦ absurd (elim (made.taken en.0 u a n task.goal delivery before en.2 s) [ inl deadline ↦ omega (arith, deadline, sooner) | inr r ↦ goal_never r.0 r.1 r.4 ])
+        | inl before ↦ absurd (elim (made.taken en.0 u a n task.goal delivery before en.2 s) [ inl late ↦ omega (arith, late, sooner) | inr r ↦ goal_never r.0 r.1 r.4 ])
         | inr same ↦
             (let front = made.real en.0 u a en.2 in
             (front.0 ++ n ∷ [], omega (arith, length-append front.0 (n ∷ []), front.1, same), Leads-append (Takes task) timely front.0 (n ∷ []) task.start task.at u a task.goal delivery front.2 (task.goal, delivery, s, (refl, refl))))
@@ -381,7 +381,7 @@ made_last task is until hop first arrival place reached best made more hops next
 -- no arrival at the goal is noted
 pub goal_unreached : (task : SearchTask) → IsTask task → (begin : ℕ) (arrival place : List ℕ) (reached : List Visit) → AreLists task.forbidden task.goal task.at begin arrival place reached → never ≤ slice_index arrival task.goal
 goal_unreached task is begin arrival place reached lists = elim (cases_lt (slice_index arrival task.goal) never) [
-  | inr deadline ↦ deadline
+  | inr late ↦ late
   | inl early ↦
       (let d : Visit = record { node = 0; at = 0 } in
       let within : task.goal < length arrival = omega (arith, lists.flags, is.as_many, is.goal_in) in

@@ -129,7 +129,7 @@ module _ (task : SearchTask) (is : IsTask task) (until : ℕ) (deadline costs : 
               let waits = was.waits k (omega (arith, many)) open' off (omega (arith, same)) in
               (waits.0, Contains-permutation (event ∷ queue) queue' waits.0 moved (Contains-append_right (event ∷ []) queue waits.0 waits.1), waits.2, omega (arith, waits.3, same))
         ];
-        deadline = all_more (λ (e : Visit). slice_index arrival' e.node + slice_index costs e.node ≤ e.at) (omega (arith, here, at_is)) (All-weaker (λ (e : Visit). slice_index arrival e.node + slice_index costs e.node ≤ e.at) (λ (e : Visit). slice_index arrival' e.node + slice_index costs e.node ≤ e.at) (λ e le. omega (arith, falls e.node)) queue was.deadline);
+        reached = all_more (λ (e : Visit). slice_index arrival' e.node + slice_index costs e.node ≤ e.at) (omega (arith, here, at_is)) (All-weaker (λ (e : Visit). slice_index arrival e.node + slice_index costs e.node ≤ e.at) (λ (e : Visit). slice_index arrival' e.node + slice_index costs e.node ≤ e.at) (λ e le. omega (arith, falls e.node)) queue was.reached);
         before = all_more (λ (e : Visit). e.at < slice_index_or deadline e.node never + slice_index costs e.node) (omega (arith, less, at_is, so_far.lowered w step.permitted)) was.before;
         order = all_more (λ (e : Visit). AreSettledBy task costs settled arrival' e.at) (λ k on open'. omega (arith, kept k on, at_is, early k on open')) (All-weaker (λ (e : Visit). AreSettledBy task costs settled arrival e.at) (λ (e : Visit). AreSettledBy task costs settled arrival' e.at) (λ e by k on open'. omega (arith, kept k on, by k on open')) queue was.order);
         inside = all_more (λ (e : Visit). e.node < length arrival') (omega (arith, many)) (All-weaker (λ (e : Visit). e.node < length arrival) (λ (e : Visit). e.node < length arrival') (λ e lt. omega (arith, many)) queue was.inside);
@@ -215,7 +215,7 @@ module _ (task : SearchTask) (bounds costs : List ℕ) (settled : List Bool) (ar
   tail P all = All-tail P e queue' (All-permutation P queue (e ∷ queue') moved all)
 
   head_late : slice_index arrival e.node + slice_index costs e.node ≤ e.at
-  head_late = head (λ (f : Visit). slice_index arrival f.node + slice_index costs f.node ≤ f.at) was.deadline
+  head_late = head (λ (f : Visit). slice_index arrival f.node + slice_index costs f.node ≤ f.at) was.reached
 
   head_order : AreSettledBy task costs settled arrival e.at
   head_order = head (λ (f : Visit). AreSettledBy task costs settled arrival f.at) was.order
@@ -261,7 +261,7 @@ module _ (task : SearchTask) (bounds costs : List ℕ) (settled : List Bool) (ar
   queue_rest : (settled' : List Bool) → ((k : ℕ) → slice_index_or settled' k false ≡ false → (k ≢ e.node) × (slice_index_or settled k false ≡ false)) → All (λ (f : Visit). AreSettledBy task costs settled' arrival f.at) queue' → IsQueue task bounds costs settled' arrival queue'
   queue_rest settled' apart order = record {
     waits = λ k inside open' off reached. rest_waits k _ (apart k off).0 (was.waits k inside open' (apart k off).1 reached);
-    deadline = tail (λ (f : Visit). slice_index arrival f.node + slice_index costs f.node ≤ f.at) was.deadline;
+    reached = tail (λ (f : Visit). slice_index arrival f.node + slice_index costs f.node ≤ f.at) was.reached;
     before = tail (λ (f : Visit). f.at < slice_index_or bounds f.node never + slice_index costs f.node) was.before;
     order = order;
     inside = tail (λ (f : Visit). f.node < length arrival) was.inside;

@@ -14,7 +14,7 @@ use Rattle.sabr_search.proofs.WayLemmas.RoutesAndWays.{same_some}
 use Rattle.sabr_search.specs.declared.backward.deadlines.Deadlines.{Deadlines}
 use Rattle.sabr_search.specs.declared.backward.from_goal.Aim.{Aim}
 use Rattle.sabr_search.specs.questions.Task.{SearchTask, Takes}
-use Rattle.sabr_search.specs.layers.Late.{AreGrowing, AreGrown, AreLate, InTimeFor, IsNotedLate}
+use Rattle.sabr_search.specs.layers.Late.{AreGrowing, AreGrown, AreLate, InTimeFor, IsNotedDeadline}
 
 pub is_of : (entries : List Deadline) (p v : ℕ) (e : Deadline) → slice_get entries p ≡ Some e → e.node ≡ v → IsOf entries p v
 is_of entries p v e at same = (e.before, at ∙ ap (λ k. Some (record { node = k; before = e.before })) same)
@@ -159,7 +159,7 @@ pub record AreNoted {A : Type 0} (task : SearchTask) (first begin u x : ℕ) (s 
 pub late_noted : {A : Type 0} (task : SearchTask) (first begin : ℕ) (s t : Deadlines A) → AreLate task first begin s.deadline.items s.place.items s.entries.items → AreLinked s.entries.items s.fewer.items →
     (u x : ℕ) → u < length task.table → slice_index_or task.forbidden u false ≡ false → u ≢ task.goal → slice_index s.deadline.items u < x →
     ((t : ℕ) → t < x → (n : ℕ) × (w : ℕ) × (b : ℕ) × Takes task n u t w b × InTimeFor s.entries.items first begin w b) →
-    IsNotedLate (head_of s.deadline.items s.place.items u) begin u x s t → AreNoted task first begin u x s t
+    IsNotedDeadline (head_of s.deadline.items s.place.items u) begin u x s t → AreNoted task first begin u x s t
 late_noted task first begin s t was linked u x inside permitted other later sound (inl here) = elim (cases_eq (slice_index s.deadline.items u) 0) [
   | inl none ↦ absurd (omega (arith, here.0, head_none s.deadline.items s.place.items u none))
   | inr yes' ↦

@@ -68,8 +68,8 @@ pub record AreGrown {A : Type 0} (aim : Aim A) (left : ℕ) (s t : Deadlines A) 
 
 -- node u is too late from x on: its entry in the layer that begins at `begin` says so, or a new one does; the place
 -- after its last one is `head`
-abbrev pub IsNotedLate : {A : Type 0} → ℕ → ℕ → ℕ → ℕ → Deadlines A → Deadlines A → Type 0
-IsNotedLate head begin u x s t =
+abbrev pub IsNotedDeadline : {A : Type 0} → ℕ → ℕ → ℕ → ℕ → Deadlines A → Deadlines A → Type 0
+IsNotedDeadline head begin u x s t =
     ((begin < head) × (t.place.items ≡ s.place.items) × (t.entries.items ≡ slice_set s.entries.items (head - 1) (record { node = u; before = x })) × (t.fewer.items ≡ s.fewer.items))
     ⊎ ((head ≤ begin) × (t.place.items ≡ slice_set s.place.items u (length s.entries.items)) × (t.entries.items ≡ s.entries.items ++ record { node = u; before = x } ∷ []) × (t.fewer.items ≡ s.fewer.items ++ head ∷ []))
 

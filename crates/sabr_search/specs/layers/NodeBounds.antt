@@ -27,7 +27,7 @@ pub record IsBetween (p : TabledPlan) (r : RouteRequest) (v : ℕ) : Type 0 wher
 
 -- by node a second from which on no way over the whole graph delivers before second `until`, as far as the list goes: no
 -- step leads from there to where it isn't too late
-pub record AreLateFor (p : TabledPlan) (r : RouteRequest) (until : ℕ) (deadline : List ℕ) : Type 0 where
+pub record AreDeadlinesFor (p : TabledPlan) (r : RouteRequest) (until : ℕ) (deadline : List ℕ) : Type 0 where
   pub goal : (g : ℕ) → slice_get p.table g ≡ Some r.destination → until ≤ slice_index_or deadline g never
   pub steps : (n u t w b : ℕ) → Goes p r n u t w b → IsBetween p r u → slice_index_or deadline u never ≤ t → slice_index_or deadline w never ≤ b
 
@@ -45,7 +45,7 @@ AreSoonFor p r soon =
 
 -- what is known of the ways of every question of the request is true
 pub record AreNodeBounds {A : Type 0} (p : TabledPlan) (r : RouteRequest) (node_bounds : NodeBounds A) : Type 0 where
-  pub deadline : AreLateFor p r never node_bounds.deadline.items
-  pub deadline_until : IfSome node_bounds.until (λ until. IfSome node_bounds.deadline_until (λ deadline. AreLateFor p r until deadline.items))
+  pub deadline : AreDeadlinesFor p r never node_bounds.deadline.items
+  pub deadline_until : IfSome node_bounds.until (λ until. IfSome node_bounds.deadline_until (λ deadline. AreDeadlinesFor p r until deadline.items))
   pub costs : AreCostsFor p r node_bounds.costs.items
   pub soon : AreSoonFor p r node_bounds.soon.items

@@ -49,7 +49,7 @@ pub record IsQueue (task : SearchTask) (bounds costs : List ℕ) (settled : List
   -- an open node that is reached before it is too late there, and not settled, waits with its arrival
   pub waits : (k : ℕ) → k < length arrival → slice_index_or task.forbidden k false ≡ false → slice_index_or settled k false ≡ false → slice_index arrival k < slice_index_or bounds k never → IsWaiting queue k (slice_index arrival k + slice_index costs k)
   -- no event is earlier than the arrival at its node
-  pub deadline : All (λ (e : Visit). slice_index arrival e.node + slice_index costs e.node ≤ e.at) queue
+  pub reached : All (λ (e : Visit). slice_index arrival e.node + slice_index costs e.node ≤ e.at) queue
   -- no event comes when it is too late at its node
   pub before : All (λ (e : Visit). e.at < slice_index_or bounds e.node never + slice_index costs e.node) queue
   -- no event is earlier than a settled node

@@ -8,7 +8,7 @@ ghost use Rattle.sabr_search.specs.questions.Linked.{received, IsLinkWithin};
 ghost use Rattle.sabr_search.specs.layers.Deadlines.{IsApart, head_of};
 ghost use Rattle.sabr_search.specs.questions.FirstSteps.{AreFirstSteps};
 ghost use Rattle.sabr_search.specs.layers.Settling.{AreReal};
-ghost use Rattle.sabr_search.specs.layers.Late.{IsInLayer, AreGrowing, AreGrown, IsNotedLate, AreLeftInTimeTo, AreLeftInTimeOver, AreLeftInTimeByHead, AreLeftInTimeFrom, AreArrivals};
+ghost use Rattle.sabr_search.specs.layers.Late.{IsInLayer, AreGrowing, AreGrown, IsNotedDeadline, AreLeftInTimeTo, AreLeftInTimeOver, AreLeftInTimeByHead, AreLeftInTimeFrom, AreArrivals};
 ghost use Rattle.sabr_search.specs.layers.WholeDeadlines.{AreWhole, IsMadeBack};
 
 use crate::backward::deadlines::{Deadline, Deadlines};
@@ -37,13 +37,13 @@ pub struct Aim<'t, 'a, 's, A: Allocator + Copy> {
 
 impl<A: Allocator + Copy> Deadlines<A> {
     /// Notes the first second that is too late at a node, in the layer that begins at `begin`, once for each node.
-    fn note_late(&mut self, entry: Deadline, begin: usize) -> Result<(), NoMemory>
+    fn note_deadline(&mut self, entry: Deadline, begin: usize) -> Result<(), NoMemory>
         requires place { entry.node < length self.old.place.items }
         requires deadline { entry.node < length self.old.deadline.items }
         requires placed { head_of self.old.deadline.items self.old.place.items entry.node ≤ length self.old.entries.items }
         ensures ends { self.new.ends ≡ self.old.ends }
         ensures deadline { OnOk result (self.new.deadline.items ≡ slice_set self.old.deadline.items entry.node entry.before) }
-        ensures noted { OnOk result (IsNotedLate (head_of self.old.deadline.items self.old.place.items entry.node) begin entry.node entry.before self.old self.new) }
+        ensures noted { OnOk result (IsNotedDeadline (head_of self.old.deadline.items self.old.place.items entry.node) begin entry.node entry.before self.old self.new) }
     {
         let head = self.head(entry.node);
         if head > begin {
@@ -124,7 +124,7 @@ impl<A: Allocator + Copy> Deadlines<A> {
             before: last,
         };
         let begin = self.ends[left + 1];
-        self.note_late(entry, begin)?;
+        self.note_deadline(entry, begin)?;
         Ok(())
     }
 

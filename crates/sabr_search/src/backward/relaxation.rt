@@ -6,7 +6,7 @@ ghost use Rattle.sabr_search.specs.declared.backward.relaxation.Rule.TheVariants
 ghost use Rattle.sabr_search.specs.questions.Task.{IsTask};
 ghost use Rattle.sabr_search.specs.questions.Linked.{AreSendersAt};
 ghost use Rattle.sabr_search.specs.questions.FirstSteps.{tabled_of};
-ghost use Rattle.sabr_search.specs.layers.NodeBounds.{AreCostsFor, AreLateFor};
+ghost use Rattle.sabr_search.specs.layers.NodeBounds.{AreCostsFor, AreDeadlinesFor};
 ghost use Rattle.sabr_search.specs.layers.Relaxation.{AreAllRelaxed, AreRelaxing, IsBegun, IsRaised, IsReachedBy, IsRelaxed, IsWholeGraph, last_at};
 
 use crate::backward::deadlines::Deadline;
@@ -245,7 +245,7 @@ pub fn latest_by<A: Allocator + Copy>(
     until: u64,
 ) -> Result<Vec<u64, A>, Stopped>
     requires whole { IsWholeGraph task.now }
-    ensures deadline { IfOk result (λ v. AreLateFor (tabled_of task.now) task.now.request until v.items) }
+    ensures deadline { IfOk result (λ v. AreDeadlinesFor (tabled_of task.now) task.now.request until v.items) }
 {
     let backward = Backward {
         task,

@@ -91,7 +91,7 @@ impl<A: Allocator + Copy> Walk<A> {
 
     /// Returns true if the start of a question is too late for that many hops by the layers. Those over the whole graph
     /// don't hold for the source, which is forbidden in them.
-    pub fn is_late(&self, layers: &Deadlines<A>, task: &Task<'_, A>, hops: usize) -> bool
+    pub fn is_too_late(&self, layers: &Deadlines<A>, task: &Task<'_, A>, hops: usize) -> bool
         requires task { IsTask task.now }
         requires whole_deadlines { AreWholeDeadlinesOf task.now self.now.delivery hops layers.now }
         ensures { IsTrue result → IsDeadEnd task.now self.now.delivery task.now.start task.now.at hops }

@@ -7,7 +7,7 @@
 
 mod lists;
 
-ghost use Rattle.std.specs.Prelude.{◌≡◌, ◌^◌, ◌≤◌, ◌<◌, [], Some, All, IfSome, IsTrue, length, slice_get, slice_set, false};
+ghost use Rattle.std.specs.Prelude.{◌≡◌, ◌^◌, ◌≤◌, ◌<◌, [], Some, All, IfOk, IfSome, IsTrue, length, slice_get, slice_set, false};
 ghost use Rattle.sabr_search.specs.questions.FirstSteps.{Leads, tabled_of};
 ghost use Rattle.sabr_search.specs.questions.Task.{IsTask, IsAsked, IsOfRequest, Takes};
 ghost use Rattle.sabr_search.specs.answers.Asked.{AnswersAt, bound_left, hops_left};
@@ -18,6 +18,7 @@ use crate::early::answers::lists::Lists;
 use crate::early::wide_questions::Breadth;
 use crate::found::{Found, FoundWay};
 use crate::question::Question;
+use crate::stopped::Stopped;
 use crate::task::Task;
 use crate::visit::Visit;
 use sabr_index::Looks;
@@ -139,61 +140,60 @@ impl<A: Allocator + Copy> Answer<A> {
     }
 
     /// Goes along its way from where a question stands, a look for each contact; returns whether it delivers at the
-    /// same second, within the looks that are left. Notes the first forbidden node that it passes.
+    /// same second. Notes the first forbidden node that it passes.
     fn leads(
         &self,
         task: &Task<'_, A>,
         looks: &mut Looks,
         delivery: u64,
         passed: &mut Option<usize>,
-    ) -> bool
+    ) -> Result<bool, Stopped>
         requires task { IsTask task.now }
         requires goal { slice_get task.now.table task.now.goal ≡ Some task.now.request.destination }
         requires answer { IsAnswer (tabled_of task.now) task.now.request self.now }
         requires node { self.now.from.node ≡ task.now.start }
         requires same { self.now.lists.excluded ≡ task.now.excluded }
         requires way { self.now.found ≡ Found.Way delivery }
-        ensures { IsTrue result → Leads (Takes task.now) task.now.start task.now.at self.now.lists.way task.now.goal delivery }
+        ensures { IfOk result (λ yes. IsTrue yes → Leads (Takes task.now) task.now.start task.now.at self.now.lists.way task.now.goal delivery) }
     {
         let mut from = task.beginning();
         let way = self.lists.way();
         for place in 0..way.len() {
             if looks.left() == 0 {
-                return false;
+                return Err(Stopped::NoLooks);
             }
             let Some(next) = task.arrive_by(looks, way[place], from.at, passed) else {
-                return false;
+                return Ok(false);
             };
             if next.at > delivery {
-                return false;
+                return Ok(false);
             }
             from = next;
         }
-        from.node == task.goal() && from.at == delivery
+        Ok(from.node == task.goal() && from.at == delivery)
     }
 
-    /// Returns whether it is the answer to a question up to a bound, too, as far as the looks that are left show it. If
-    /// its way passes a forbidden node, notes that.
+    /// Returns whether it is the answer to a question up to a bound, too. If its way passes a forbidden node, notes that.
     fn answers(
         &self,
         asked: &Question<'_, '_, '_, A>,
         looks: &mut Looks,
         passed: &mut Option<usize>,
-    ) -> bool
+    ) -> Result<bool, Stopped>
         requires asked { IsAsked asked.now.task.now asked.now.prefix.now }
         requires answer { IsAnswer (tabled_of asked.now.task.now) asked.now.task.now.request self.now }
-        ensures { IsTrue result → IsAnswerTo self.now asked.now.task.now (hops_left asked.now) (bound_left asked.now) }
+        ensures { IfOk result (λ yes. IsTrue yes → IsAnswerTo self.now asked.now.task.now (hops_left asked.now) (bound_left asked.now)) }
     {
         let hops = asked.hops_left();
         if !self.covers(asked.task, hops) {
-            return false;
+            return Ok(false);
         }
         let delivery = match &self.found {
             Found::Way(delivery) => *delivery,
-            Found::Beyond(above) => return asked.bound_left().is_within(*above),
+            Found::Beyond(above) => return Ok(asked.bound_left().is_within(*above)),
         };
         if self.lists.way().len() > hops {
-            return false;
+            return Ok(false);
         }
         self.leads(asked.task, looks, delivery, passed)
     }
@@ -259,10 +259,14 @@ impl<A: Allocator + Copy> Answers<A> {
 
     /// The place of an answer that is the answer to this question, too; or else the near miss whose question forbade
     /// most nodes.
-    pub fn recall(&self, asked: &Question<'_, '_, '_, A>, looks: &mut Looks) -> Recalled<'_>
+    pub fn recall(
+        &self,
+        asked: &Question<'_, '_, '_, A>,
+        looks: &mut Looks,
+    ) -> Result<Recalled<'_>, Stopped>
         requires asked { IsAsked asked.now.task.now asked.now.prefix.now }
         requires cached { All (IsAnswer (tabled_of asked.now.task.now) asked.now.task.now.request) self.now.slots.items }
-        ensures { IfSome result.place (AnswersAt self.now.slots.items asked.now) }
+        ensures { IfOk result (λ recalled. IfSome recalled.place (AnswersAt self.now.slots.items asked.now)) }
     {
         let mut near: Option<NearMiss<'_>> = None;
         let mut next = self.head(bucket_of(asked.task));
@@ -275,11 +279,11 @@ impl<A: Allocator + Copy> Answers<A> {
                 break;
             };
             let mut passed = None;
-            if answer.answers(asked, looks, &mut passed) {
-                return Recalled {
+            if answer.answers(asked, looks, &mut passed)? {
+                return Ok(Recalled {
                     place: Some(place),
                     near: None,
-                };
+                });
             }
             if let Some(node) = passed {
                 let forbidden = answer.lists.forbidden();
@@ -287,7 +291,7 @@ impl<A: Allocator + Copy> Answers<A> {
             }
             next = answer.next;
         }
-        Recalled { place: None, near }
+        Ok(Recalled { place: None, near })
     }
 
     /// This place, if the answer there is the answer to a question, too.
@@ -296,17 +300,19 @@ impl<A: Allocator + Copy> Answers<A> {
         place: usize,
         asked: &Question<'_, '_, '_, A>,
         looks: &mut Looks,
-    ) -> Option<usize>
+    ) -> Result<Option<usize>, Stopped>
         requires asked { IsAsked asked.now.task.now asked.now.prefix.now }
         requires cached { All (IsAnswer (tabled_of asked.now.task.now) asked.now.task.now.request) self.now.slots.items }
-        ensures { IfSome result (AnswersAt self.now.slots.items asked.now) }
+        ensures { IfOk result (λ o. IfSome o (AnswersAt self.now.slots.items asked.now)) }
     {
         let mut passed = None;
-        let answer = self.slots.get(place)?;
-        if answer.answers(asked, looks, &mut passed) {
-            return Some(place);
+        let Some(answer) = self.slots.get(place) else {
+            return Ok(None);
+        };
+        if answer.answers(asked, looks, &mut passed)? {
+            return Ok(Some(place));
         }
-        None
+        Ok(None)
     }
 
     /// Makes the buckets, if there are none; returns whether there are some.

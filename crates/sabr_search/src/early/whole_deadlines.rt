@@ -122,7 +122,7 @@ impl<A: Allocator + Copy> WholeDeadlines<A> {
         let most = asked.bound_left().hops_at(asked.floor, hops);
         walk.begin(asked.floor);
         for count in 1..most + 1 {
-            if walk.is_late(&self.layers, asked.task, count) {
+            if walk.is_too_late(&self.layers, asked.task, count) {
                 continue;
             }
             if let Some(way) = walk.pick(&self.layers, asked.task, looks, count)? {

@@ -19,7 +19,7 @@ pub struct WalkedLink<'a> {
 /// second `at` or later arrives sooner than `before`.
 #[inline(always)]
 pub fn arrives_no_sooner(soonest: u64, least_light: u32, at: u64, before: u64) -> bool
-    ensures late { IsTrue result → (before ≤ soonest) ⊎ (before ≤ at + least_light) }
+    ensures no_sooner { IsTrue result → (before ≤ soonest) ⊎ (before ≤ at + least_light) }
     ensures early { result ≡ false → at < before }
 {
     before <= soonest.max(at.saturating_add(least_light as u64))
@@ -29,7 +29,7 @@ pub fn arrives_no_sooner(soonest: u64, least_light: u32, at: u64, before: u64) -
 /// sooner than `before`. Whether the link has ended is seen first.
 #[inline(always)]
 pub fn rules_out(bounds: LinkBounds, at: u64, before: u64) -> bool
-    ensures late { IsTrue result → IsRuledOut bounds at before }
+    ensures ruled_out { IsTrue result → IsRuledOut bounds at before }
     ensures early { result ≡ false → at < before }
 {
     bounds.latest_end <= at || arrives_no_sooner(bounds.soonest, bounds.least_light, at, before)

@@ -10,25 +10,6 @@ use sabr_index::CountedPlan;
 use sabr_model::{NoMemory, Request};
 use std::alloc::Allocator;
 
-/// Forbids the nodes to avoid. All are open before.
-fn forbid_avoided<A: Allocator + Copy>(
-    forbidden: &mut ForbiddenNodes<A>,
-    plan: &CountedPlan<'_, A>,
-    request: &Request,
-) -> Result<(), NoMemory>
-    requires nodes { HasNodes plan.now.plan plan.now.table }
-    requires many { length forbidden.old ≡ length plan.now.table }
-    requires none { (k : ℕ) → slice_index_or forbidden.old k false ≡ false }
-    ensures { OnOk result (AreForbidden plan.now.table forbidden.new (λ x. has x request.now.avoided)) }
-{
-    for node in request.avoided() {
-        if let Some(index) = plan.node_index(*node) {
-            forbidden.put(index)?;
-        }
-    }
-    Ok(())
-}
-
 /// Forbids the source and the nodes to avoid. All are open before.
 pub fn forbid_source_and_avoided<A: Allocator + Copy>(
     forbidden: &mut ForbiddenNodes<A>,
@@ -40,7 +21,11 @@ pub fn forbid_source_and_avoided<A: Allocator + Copy>(
     requires none { (k : ℕ) → slice_index_or forbidden.old k false ≡ false }
     ensures { OnOk result (AreForbidden plan.now.table forbidden.new (is_forbidden plan.now.plan request.now [])) }
 {
-    forbid_avoided(forbidden, plan, request)?;
+    for node in request.avoided() {
+        if let Some(index) = plan.node_index(*node) {
+            forbidden.put(index)?;
+        }
+    }
     let Some(source) = plan.node_index(request.from()) else {
         return Ok(());
     };

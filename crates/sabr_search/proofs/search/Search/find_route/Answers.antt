@@ -6,21 +6,24 @@ use Rattle.sabr_search.proofs.search.Search.find_route.Goals as goal
 
 pub above-requires-clause-beyond : goal.above-requires-clause-beyond
 above-requires-clause-beyond g c =
-    rw c.in-Beyond.is at (found_at c.args.asked.now c.requires.asked c.find_early-found.new.memory.answers.slots.items c.find_early-found.ensures.memory.2.0 c.in-Some-Cached.place (rw c.in-Some-Cached.field-0-is at (rw c.in-Some-Cached.is at c.in_ok-early.ensures.early)) c.index-answer.result.now c.index-answer.ensures)
+    rw c.in-Beyond.is at (found_at c.args.asked.now c.requires.asked c.find_early-found.new.memory.answers.slots.items c.find_early-found.ensures.memory.2.0 c.in-Ok-Some-Cached.place (rw c.in-Ok-Some-Cached.field-0-0-is at (rw c.in-Ok-Some-Cached.field-0-is at (rw c.in-Ok-Some-Cached.is at c.find_early-found.ensures.early))) c.index-answer.result.now c.index-answer.ensures)
 
 pub above-requires-clause-enough : goal.above-requires-clause-enough
 above-requires-clause-enough g c =
-    rw c.in-Beyond.is at (holds_at c.args.asked.now c.requires.asked c.find_early-found.new.memory.answers.slots.items c.find_early-found.ensures.memory.2.0 c.in-Some-Cached.place (rw c.in-Some-Cached.field-0-is at (rw c.in-Some-Cached.is at c.in_ok-early.ensures.early)) c.index-answer.result.now c.index-answer.ensures)
+    rw c.in-Beyond.is at (holds_at c.args.asked.now c.requires.asked c.find_early-found.new.memory.answers.slots.items c.find_early-found.ensures.memory.2.0 c.in-Ok-Some-Cached.place (rw c.in-Ok-Some-Cached.field-0-0-is at (rw c.in-Ok-Some-Cached.field-0-is at (rw c.in-Ok-Some-Cached.is at c.find_early-found.ensures.early))) c.index-answer.result.now c.index-answer.ensures)
 
 pub returns-in-Beyond-clause-bound : goal.returns-in-Beyond-clause-bound
 returns-in-Beyond-clause-bound g c = omega (arith, c.put_back.ensures, c.set_aside-aside.ensures.aside, c.one_scan.ensures.value, passes_within c.args.asked.now.task.now c.args.asked.now.prefix.now c.requires.asked)
+
+pub returns-in-Err-NoMemory-clause-bound : goal.returns-in-Err-NoMemory-clause-bound
+returns-in-Err-NoMemory-clause-bound g c = omega (arith, c.put_back.ensures, c.set_aside-aside.ensures.aside, c.one_scan.ensures.value, passes_within c.args.asked.now.task.now c.args.asked.now.prefix.now c.requires.asked)
 
 pub route-requires-clause-few : goal.route-requires-clause-few
 route-requires-clause-few g c = omega (arith, c.put_back.ensures, c.set_aside-aside.ensures.aside, c.one_scan.ensures.value, passes_within c.args.asked.now.task.now c.args.asked.now.prefix.now c.requires.asked)
 
 pub route-requires-clause-least : goal.route-requires-clause-least
 route-requires-clause-least g c =
-    rw c.way.ensures (rw c.in-Way.is at (found_at c.args.asked.now c.requires.asked c.find_early-found.new.memory.answers.slots.items c.find_early-found.ensures.memory.2.0 c.in-Some-Cached.place (rw c.in-Some-Cached.field-0-is at (rw c.in-Some-Cached.is at c.in_ok-early.ensures.early)) c.index-answer.result.now c.index-answer.ensures))
+    rw c.way.ensures (rw c.in-Way.is at (found_at c.args.asked.now c.requires.asked c.find_early-found.new.memory.answers.slots.items c.find_early-found.ensures.memory.2.0 c.in-Ok-Some-Cached.place (rw c.in-Ok-Some-Cached.field-0-0-is at (rw c.in-Ok-Some-Cached.field-0-is at (rw c.in-Ok-Some-Cached.is at c.find_early-found.ensures.early))) c.index-answer.result.now c.index-answer.ensures))
 
 pub answer-requires-clause-few : goal.answer-requires-clause-few
 answer-requires-clause-few g c = omega (arith, c.put_back.ensures, c.set_aside-aside.ensures.aside, c.one_scan.ensures.value, passes_within c.args.asked.now.task.now c.args.asked.now.prefix.now c.requires.asked)
@@ -58,8 +61,8 @@ returns-clause-memory g c =
     let memory = c.count.ensures _ _ c.find_early-found.ensures.memory in
     (memory.0, memory.1, c.learn.ensures.cached)
 
-pub returns-in-Err-NoMemory-clause-bound : goal.returns-in-Err-NoMemory-clause-bound
-returns-in-Err-NoMemory-clause-bound g c = omega (arith, c.run.ensures.counted, c.put_back.ensures, c.set_aside-aside.ensures.aside, c.one_scan.ensures.value, layers_within c.args.asked.now.task.now c.args.asked.now.prefix.now c.requires.asked)
+pub returns-in-Err-NoMemory-run-clause-bound : goal.returns-in-Err-NoMemory-run-clause-bound
+returns-in-Err-NoMemory-run-clause-bound g c = omega (arith, c.run.ensures.counted, c.put_back.ensures, c.set_aside-aside.ensures.aside, c.one_scan.ensures.value, layers_within c.args.asked.now.task.now c.args.asked.now.prefix.now c.requires.asked)
 
 pub answer-requires-2-clause-few : goal.answer-requires-2-clause-few
 answer-requires-2-clause-few g c = omega (arith, c.run.ensures.counted, c.put_back.ensures, c.set_aside-aside.ensures.aside, c.one_scan.ensures.value, layers_within c.args.asked.now.task.now c.args.asked.now.prefix.now c.requires.asked)

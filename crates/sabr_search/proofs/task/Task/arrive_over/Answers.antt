@@ -10,7 +10,7 @@ use Rattle.sabr_search.proofs.WayLemmas.RoutesAndWays.{same_some}
 
 pub returns-then-rules_out-clause-full : goal.returns-then-rules_out-clause-full
 returns-then-rules_out-clause-full g c = λ n w b has s.
-    ruled_out c.args.self.now c.requires.task c.args.link.from c.args.link.to c.args.link.passes.now c.requires.link.0 c.args.link.bounds c.requires.link.1 c.args.at c.args.before (c.rules_out.ensures.late c.if-rules_out.true) n c.args.at w b has (omega arith) s
+    ruled_out c.args.self.now c.requires.task c.args.link.from c.args.link.to c.args.link.passes.now c.requires.link.0 c.args.link.bounds c.requires.link.1 c.args.at c.args.before (c.rules_out.ensures.ruled_out c.if-rules_out.true) n c.args.at w b has (omega arith) s
 
 pub loop-place-init : goal.loop-place-init
 loop-place-init g c = record {
@@ -117,7 +117,7 @@ returns-then-arrives_no_sooner-clause-sound g c = λ less open'.
 
 pub returns-then-arrives_no_sooner-clause-full : goal.returns-then-arrives_no_sooner-clause-full
 returns-then-arrives_no_sooner-clause-full g c = λ n w b has s.
-    ruled_out c.args.self.now c.requires.task c.args.link.from c.args.link.to c.args.link.passes.now c.requires.link.0 c.args.link.bounds c.requires.link.1 c.args.at c.in-Some.arrival (inr (c.arrives_no_sooner.ensures.late c.if-arrives_no_sooner.true)) n c.args.at w b has (omega arith) s
+    ruled_out c.args.self.now c.requires.task c.args.link.from c.args.link.to c.args.link.passes.now c.requires.link.0 c.args.link.bounds c.requires.link.1 c.args.at c.in-Some.arrival (inr (c.arrives_no_sooner.ensures.no_sooner c.if-arrives_no_sooner.true)) n c.args.at w b has (omega arith) s
 
 pub returns-clause-full : goal.returns-clause-full
 returns-clause-full g c = λ n w b has s.

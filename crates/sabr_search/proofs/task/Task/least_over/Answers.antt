@@ -7,7 +7,7 @@ use Rattle.sabr_search.proofs.task.Task.least_over.Goals as goal
 
 pub returns-then-rules_out-clause-full : goal.returns-then-rules_out-clause-full
 returns-then-rules_out-clause-full g c = λ n w b has s less.
-    absurd (omega (arith, less, ruled_out c.args.self.now c.requires.task c.args.link.from c.args.link.to c.args.link.passes.now c.requires.link.0 c.args.link.bounds c.requires.link.1 c.args.at c.args.before (c.rules_out.ensures.late c.if-rules_out.true) n c.args.at w b has (omega arith) s))
+    absurd (omega (arith, less, ruled_out c.args.self.now c.requires.task c.args.link.from c.args.link.to c.args.link.passes.now c.requires.link.0 c.args.link.bounds c.requires.link.1 c.args.at c.args.before (c.rules_out.ensures.ruled_out c.if-rules_out.true) n c.args.at w b has (omega arith) s))
 
 pub loop-place-init : goal.loop-place-init
 loop-place-init g c = record {

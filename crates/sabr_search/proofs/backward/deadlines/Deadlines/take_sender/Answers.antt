@@ -6,7 +6,7 @@ use Rattle.sabr_search.proofs.BackwardLemmas.Relaxing.{late_rises}
 use Rattle.sabr_search.proofs.WholeLemmas.Chained.{AreNoted, grown_none, head_within, late_noted}
 use Rattle.sabr_search.specs.declared.backward.deadlines.Deadlines.{Deadlines}
 use Rattle.sabr_search.specs.layers.Deadlines.{head_of}
-use Rattle.sabr_search.specs.layers.Late.{IsNotedLate}
+use Rattle.sabr_search.specs.layers.Late.{IsNotedDeadline}
 use Rattle.sabr_search.proofs.backward.deadlines.Deadlines.take_sender.Given.{Over}
 use Rattle.sabr_search.proofs.backward.deadlines.Deadlines.take_sender.Goals.{After-index-begin}
 use Rattle.sabr_search.proofs.backward.deadlines.Deadlines.take_sender.Goals as goal
@@ -16,12 +16,12 @@ returns-then-last-max-clause-in_time g c = λ n t w b has s less permitted other
     let latest = read_at c.args.self.now.deadline.items c.args.from.node c.index-latest.result.now (omega (arith, c.requires.node, c.requires.growing.lists.many)) c.index-latest.ensures in
     omega (arith, c.leave_over-last.ensures.full n t w b has s less, latest, soon, c.at.ensures, c.max.ensures, c.if-last-max.true)
 
-pub note_late-requires-clause-placed : goal.note_late-requires-clause-placed
-note_late-requires-clause-placed g c = head_within c.args.aim.now.task.now _ _ c.args.self.now.deadline.items c.args.self.now.place.items c.args.self.now.entries.items c.requires.growing.lists c.args.from.node c.requires.node
+pub note_deadline-requires-clause-placed : goal.note_deadline-requires-clause-placed
+note_deadline-requires-clause-placed g c = head_within c.args.aim.now.task.now _ _ c.args.self.now.deadline.items c.args.self.now.place.items c.args.self.now.entries.items c.requires.growing.lists c.args.from.node c.requires.node
 
 -- the lists with the sender noted
 noted : (g : Over) (c : After-index-begin g) (new : Deadlines g.row.A.Denot) →
-    IsNotedLate (head_of c.args.self.now.deadline.items c.args.self.now.place.items c.args.from.node) c.index-begin.result.now c.args.from.node c.leave_over-last.result c.args.self.now new →
+    IsNotedDeadline (head_of c.args.self.now.deadline.items c.args.self.now.place.items c.args.from.node) c.index-begin.result.now c.args.from.node c.leave_over-last.result c.args.self.now new →
     AreNoted c.args.aim.now.task.now (slice_index c.args.self.now.ends.items c.args.left) (slice_index c.args.self.now.ends.items (c.args.left + 1)) c.args.from.node c.leave_over-last.result c.args.self.now new
 noted g c new how =
     let task = c.args.aim.now.task.now in
@@ -37,22 +37,22 @@ returns-then-last-max-clause-grown g c = grown_none _ _ _ c.requires.growing
 
 pub returns-clause-grown : goal.returns-clause-grown
 returns-clause-grown g c =
-    let new = c.in_ok-note_late.ensures in
-    let noted = noted g (goal.at.returns-clause-grown g c).After-index-begin c.note_late.new.self new.noted in
+    let new = c.in_ok-note_deadline.ensures in
+    let noted = noted g (goal.at.returns-clause-grown g c).After-index-begin c.note_deadline.new.self new.noted in
     let latest = read_at c.args.self.now.deadline.items c.args.from.node c.index-latest.result.now (omega (arith, c.requires.node, c.requires.growing.lists.many)) c.index-latest.ensures in
     record {
       growing = record {
         task = c.requires.growing.task;
         arrivals = c.requires.growing.arrivals;
-        bounded = rw c.note_late.ensures.ends c.requires.growing.bounded;
-        lists = rw (c.note_late.ensures.ends, new.deadline) noted.lists;
+        bounded = rw c.note_deadline.ensures.ends c.requires.growing.bounded;
+        lists = rw (c.note_deadline.ensures.ends, new.deadline) noted.lists;
         linked = noted.linked;
       };
       rises = rw new.deadline (late_rises c.args.self.now.deadline.items c.args.from.node c.leave_over-last.result (omega (arith, c.requires.node, c.requires.growing.lists.many)) (omega (arith, latest, c.max.ensures, c.if-last-max.false)));
-      ends = c.note_late.ensures.ends;
+      ends = c.note_deadline.ensures.ends;
       before = noted.kept;
     }
 
 pub returns-clause-in_time : goal.returns-clause-in_time
 returns-clause-in_time g c = λ n t w b has s less permitted other soon.
-    rw c.in_ok-note_late.ensures.deadline (omega (arith, get_or-set_same c.args.self.now.deadline.items c.args.from.node c.leave_over-last.result 0 (omega (arith, c.requires.node, c.requires.growing.lists.many)), c.leave_over-last.ensures.full n t w b has s less))
+    rw c.in_ok-note_deadline.ensures.deadline (omega (arith, get_or-set_same c.args.self.now.deadline.items c.args.from.node c.leave_over-last.result 0 (omega (arith, c.requires.node, c.requires.growing.lists.many)), c.leave_over-last.ensures.full n t w b has s less))

@@ -13,8 +13,8 @@ returns-then-rules_out g c = λ s at n t b has step open' other less.
     let link = c.requires.senders.each c.args.place _ here.1 in
     elim (cases_lt t c.args.latest) [
       | inl early ↦ early
-      | inr deadline ↦
-          absurd (omega (arith, less, ruled_out task c.requires.task head.node c.args.to.node here.0 link head.bounds here.2 c.args.latest c.args.to.before (c.rules_out.ensures.late c.if-rules_out.true) n t c.args.to.node b (rw is at has) deadline (rw is at step)))
+      | inr late ↦
+          absurd (omega (arith, less, ruled_out task c.requires.task head.node c.args.to.node here.0 link head.bounds here.2 c.args.latest c.args.to.before (c.rules_out.ensures.ruled_out c.if-rules_out.true) n t c.args.to.node b (rw is at has) late (rw is at step)))
     ]
 
 pub returns-then-not-is_between : goal.returns-then-not-is_between

@@ -129,9 +129,9 @@ loop-place-preserved g c =
             let to = link.leads c.requires.task n from.at w b has' s in
             elim (cases_lt b before) [
               | inl early ↦ inr ((rw c.link-link.ensures.from at over.full) n w b has' s early)
-              | inr deadline ↦ inl (subst (λ k. IsDeadEnd task d k b c.args.hops) (sym to)
+              | inr late ↦ inl (subst (λ k. IsDeadEnd task d k b c.args.hops) (sym to)
                   (step_ended task c.requires.task d c.args.hops layers c.requires.whole_deadlines c.requires.here.0 from c.requires.here.1 c.args.self.now.ends.items c.requires.ends n c.link-link.result.to b c.before-deadline.result before
-                  (subst (λ k. Takes task n from.node from.at k b) to s) (rw c.end_of-end.ensures at c.before-deadline.ensures.latest) c.before_end-before.ensures.end deadline))
+                  (subst (λ k. Takes task n from.node from.at k b) to s) (rw c.end_of-end.ensures at c.before-deadline.ensures.latest) c.before_end-before.ensures.end late))
             ])
       ];
     }

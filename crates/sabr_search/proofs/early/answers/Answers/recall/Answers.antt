@@ -1,5 +1,4 @@
-use Rattle.std.proofs.Common.{◌≡◌, Some, slice_get, refl, ap, sym, subst, ◌∙◌}
-use Rattle.std.proofs.lemmas.Option.{slice_get-get_or}
+use Rattle.std.proofs.Common.{sym, subst}
 use Rattle.sabr_search.specs.questions.FirstSteps.{tabled_of}
 use Rattle.sabr_search.specs.answers.CachedAnswers.{IsAnswer}
 use Rattle.sabr_search.proofs.early.answers.Answers.recall.Goals as goal
@@ -10,11 +9,3 @@ answers-requires-clause-answer g c =
     let answer = c.in-Some-get.answer.now in
     let lookup = rw c.deref.ensures.value at c.in-Some-get.ensures.lookup in
     subst (IsAnswer (tabled_of task) task.request) (sym lookup.1) (c.requires.cached c.in-Some.place answer lookup.3.0)
-
-pub returns-then-answers : goal.returns-then-answers
-returns-then-answers g c =
-    let items = c.deref.result.now in
-    let answer = c.in-Some-get.answer.now in
-    let lookup = c.in-Some-get.ensures.lookup in
-    let there : slice_get items c.in-Some.place ≡ Some answer = slice_get-get_or items c.in-Some.place answer lookup.3.0 ∙ ap Some (sym lookup.1) in
-    (answer, rw c.deref.ensures.value at there, c.if-answers.ensures refl)

@@ -17,16 +17,16 @@ loop-count-init g c = record {
   dead = dead_none c.args.asked.now.task.now c.requires.asked.task_is c.args.asked.now.floor;
 }
 
-pub loop-count-preserved-then-is_late : goal.loop-count-preserved-then-is_late
-loop-count-preserved-then-is_late g c = record {
+pub loop-count-preserved-then-is_too_late : goal.loop-count-preserved-then-is_too_late
+loop-count-preserved-then-is_too_late g c = record {
   delivery = c.loop-count.invariant.delivery;
   some = omega arith;
   ends = c.loop-count.invariant.ends;
-  dead = dead_fewer c.args.asked.now.task.now _ _ _ c.loop-count.count _ (omega arith) (rw c.loop-count.invariant.delivery at (c.is_late.ensures c.if-is_late.true));
+  dead = dead_fewer c.args.asked.now.task.now _ _ _ c.loop-count.count _ (omega arith) (rw c.loop-count.invariant.delivery at (c.is_too_late.ensures c.if-is_too_late.true));
 }
 
-pub is_late-requires-clause-whole_deadlines : goal.is_late-requires-clause-whole_deadlines
-is_late-requires-clause-whole_deadlines g c = rw c.loop-count.invariant.delivery (level_fewer c.args.asked.now.task.now c.requires.asked.task_is _ (hops_left c.args.asked.now) _ c.requires.whole_deadlines c.loop-count.count (omega (arith, c.loop-count-test.true, c.hops_at-most.ensures.most, c.hops_left-hops.ensures)))
+pub is_too_late-requires-clause-whole_deadlines : goal.is_too_late-requires-clause-whole_deadlines
+is_too_late-requires-clause-whole_deadlines g c = rw c.loop-count.invariant.delivery (level_fewer c.args.asked.now.task.now c.requires.asked.task_is _ (hops_left c.args.asked.now) _ c.requires.whole_deadlines c.loop-count.count (omega (arith, c.loop-count-test.true, c.hops_at-most.ensures.most, c.hops_left-hops.ensures)))
 
 pub pick-requires-clause-whole_deadlines : goal.pick-requires-clause-whole_deadlines
 pick-requires-clause-whole_deadlines g c = rw c.loop-count.invariant.delivery (level_fewer c.args.asked.now.task.now c.requires.asked.task_is _ (hops_left c.args.asked.now) _ c.requires.whole_deadlines (c.loop-count.count - 1) (omega (arith, c.loop-count-test.true, c.hops_at-most.ensures.most, c.hops_left-hops.ensures)))

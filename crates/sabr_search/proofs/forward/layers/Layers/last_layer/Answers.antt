@@ -29,7 +29,7 @@ loop-place-preserved-then-rules_out g c =
       counted = omega (arith, so_far.counted, (passes_within task to c.senders-senders.result c.senders-senders.ensures c.loop-place.place _ here.1).0);
       lower = so_far.lower;
       known = each_until (IsKnownOf task to arrival c.loop-place.earliest) c.senders-senders.result c.loop-place.place _ here.1 so_far.known
-          (λ n b has s open'. ruled_out task c.requires.task u to here.0 link c.head-head.result.bounds here.2 c.index-at.result.now c.loop-place.earliest (c.rules_out.ensures.late c.if-rules_out.true) n (slice_index arrival u) to b has (omega (arith, at)) s);
+          (λ n b has s open'. ruled_out task c.requires.task u to here.0 link c.head-head.result.bounds here.2 c.index-at.result.now c.loop-place.earliest (c.rules_out.ensures.ruled_out c.if-rules_out.true) n (slice_index arrival u) to b has (omega (arith, at)) s);
       found = so_far.found;
     }
 

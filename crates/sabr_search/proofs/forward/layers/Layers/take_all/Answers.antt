@@ -30,7 +30,7 @@ loop-place-preserved-then-rules_out g c =
         | inr same ↦
             (let is = same_some (sym at ∙ ap (slice_get c.links-links.result.links.now) same ∙ here) in
             known_skipped task c.requires.task c.args.from.node c.args.from.at _ _ so_far.links c.loop-place.self.arrival.items c.loop-place.earliest
-            (omega (arith, goal_late)) j x at (rw is (rw known at (c.rules_out.ensures.late c.if-rules_out.true))) n w b has s)
+            (omega (arith, goal_late)) j x at (rw is (rw known at (c.rules_out.ensures.ruled_out c.if-rules_out.true))) n w b has s)
       ];
     }
 
