@@ -5,6 +5,7 @@ use Rattle.sabr_model.proofs.ListLemmas.Ordered.{all_weaker}
 use Rattle.std.specs.List.{filter, find, list_any, AllByRecursion}
 use Rattle.std.specs.List.Sorted.{IsStrictlySortedBy}
 use Rattle.std.proofs.lemmas.Bool.{and_parts, and_from, or_parts, or_from, not-true, not_from_false, eqb-true, eq-eqb, ne_eqb, lt-ltb, ltb-true, both_ways, cond_both}
+use Rattle.std.proofs.lemmas.Bool.Decides.{nat_tests}
 use Rattle.std.proofs.lemmas.List.Elements.{All-filter, All-from_recursion, recursion_from_All}
 use Rattle.std.specs.declared.option.Option.TheVariants.{Some}
 use Rattle.std.specs.declared.cmp.Ordering.TheVariants.{Less}
@@ -156,10 +157,7 @@ found_by_number low t (x ∷ cs) c rises found =
 
 -- an opening's parts
 pub opens_parts : (from to start : ℕ) (d : Contact) → opens from to start d ≡ true → (from ≡ d.from) × (to ≡ d.to) × (start ≡ d.start)
-opens_parts from to start d h =
-    let a = and_parts (eqb from d.from && eqb to d.to) (eqb start d.start) h in
-    let b = and_parts (eqb from d.from) (eqb to d.to) a.0 in
-    (eqb-true from d.from b.0, eqb-true to d.to b.1, eqb-true start d.start a.1)
+opens_parts from to start d h = (grind (arith, nat_tests), grind (arith, nat_tests), grind (arith, nat_tests))
 
 -- only one contact has an opening
 opening_one : (from to start : ℕ) (cs : List Contact) (c : Contact) → none_twice same_opening cs ≡ true → find (opens from to start) cs ≡ Some c → AllByRecursion (λ d. opens from to start d ≡ true → d ≡ c) cs

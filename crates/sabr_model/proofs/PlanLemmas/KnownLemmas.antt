@@ -1,9 +1,9 @@
 -- What a plan stores of its contacts.
-use Rattle.std.proofs.Common.{◌≡◌, ℕ, zero, suc, ◌+◌, ◌<◌, ◌≤◌, true, ◌||◌, eqb, List, [], ◌∷◌, ◌++◌, length, get_or, take, refl, sym, ap, subst, ◌∙◌, inl, inr, arith, length-append, ◌-◌, Bool, false, cond, ◌&&◌, ltb, map, remove}
+use Rattle.std.proofs.Common.{◌≡◌, ℕ, zero, suc, ◌+◌, ◌<◌, ◌≤◌, true, eqb, List, [], ◌∷◌, ◌++◌, length, get_or, take, refl, sym, ap, subst, ◌∙◌, inl, inr, arith, length-append, ◌-◌, Bool, false, cond, ◌&&◌, ltb, map, remove}
 use Rattle.std.specs.Prelude.{Vec, slice_get, is_some, MatchOption}
 use Rattle.std.proofs.Math.ListN.{get_or-append}
 use Rattle.std.proofs.Math.Seq.{get_or-append_seam}
-use Rattle.std.proofs.lemmas.Bool.{or_left, or_right, eq-eqb, cases_lt, and_from, cases_order, eqb-true, lt-ltb, le-ltb, both_ways, false_from_ne_true}
+use Rattle.std.proofs.lemmas.Bool.{eq-eqb, cases_lt, and_from, cases_order, eqb-true, lt-ltb, le-ltb, both_ways, false_from_ne_true}
 use Rattle.std.proofs.lemmas.List.{get_or_default, get_or_append_left}
 use Rattle.std.specs.declared.option.Option.{Option}
 use Rattle.indexmap.specs.IndexMap.{IndexMap, keys}
@@ -11,9 +11,11 @@ use Rattle.sabr_model.specs.declared.contact.Contact.{Contact}
 use Rattle.sabr_model.specs.declared.contact.Range.{Range}
 use Rattle.sabr_model.specs.declared.plan.known.Known.{Known}
 use Rattle.sabr_model.specs.plan.Plan.{has, opens, same_opening, none_twice, rises_above}
-use Rattle.sabr_model.specs.plan.Table.{ends_of, KeepsPlaces, IsTableOf}
+use Rattle.sabr_model.specs.plan.Table.{KeepsPlaces, IsTableOf}
 use Rattle.sabr_model.specs.plan.Known.{IsKnown, AreKnown, AreEnds, light_of_word}
+use Rattle.sabr_model.proofs.ListLemmas.Members.{in_from_Contains}
 use Rattle.sabr_model.proofs.PlanLemmas.TableLemmas.{has_node}
+use Rattle.sabr_model.proofs.PlanLemmas.Without.{ends_in}
 use Rattle.std.specs.List.{find, list_any}
 use Rattle.std.specs.declared.option.Option.TheVariants.{Some, None}
 use Rattle.std.specs.BTreeMap.{BTreeMap, get, is_at, Updates}
@@ -62,26 +64,12 @@ known_push old new ranges lit cs known c e places h here =
           ];
     }
 
--- each receiver is one of the nodes
-receiver_there : (cs : List Contact) (k : ℕ) (d : Contact) → k < length cs → has (get_or cs k d).to (ends_of cs) ≡ true
-receiver_there [] k d lt = absurd (omega arith)
-receiver_there (c ∷ cs) zero d lt =
-    or_right (eqb c.to c.from) (eqb c.to c.to || has c.to (ends_of cs)) (or_left (eqb c.to c.to) (has c.to (ends_of cs)) (eq-eqb c.to c.to refl))
-receiver_there (c ∷ cs) (suc k) d lt =
-    let to = (get_or cs k d).to in
-    or_right (eqb to c.from) (eqb to c.to || has to (ends_of cs)) (or_right (eqb to c.to) (has to (ends_of cs)) (receiver_there cs k d (omega arith)))
-
--- and so is each sender
-sender_there : (cs : List Contact) (k : ℕ) (d : Contact) → k < length cs → has (get_or cs k d).from (ends_of cs) ≡ true
-sender_there [] k d lt = absurd (omega arith)
-sender_there (c ∷ cs) zero d lt = or_left (eqb c.from c.from) (eqb c.from c.to || has c.from (ends_of cs)) (eq-eqb c.from c.from refl)
-sender_there (c ∷ cs) (suc k) d lt =
-    let from = (get_or cs k d).from in
-    or_right (eqb from c.from) (eqb from c.to || has from (ends_of cs)) (or_right (eqb from c.to) (has from (ends_of cs)) (sender_there cs k d (omega arith)))
-
--- and both are in the table
+-- both nodes of a contact are in the table
 pub both_in_table : {S A : Type 0} (cs : List Contact) (table : IndexMap ℕ (Vec ℕ A) S) → IsTableOf cs table → (k : ℕ) (d : Contact) → k < length cs → (has (get_or cs k d).from (keys table) ≡ true) × (has (get_or cs k d).to (keys table) ≡ true)
-both_in_table cs table h k d lt = (has_node cs table (get_or cs k d).from h ∙ sender_there cs k d lt, has_node cs table (get_or cs k d).to h ∙ receiver_there cs k d lt)
+both_in_table cs table h k d lt =
+    let c = get_or cs k d in
+    let there = ends_in c cs (in_from_Contains cs c (k, lt, get_or_default cs k c d lt)) in
+    (has_node cs table c.from h ∙ there.0, has_node cs table c.to h ∙ there.1)
 
 -- to take as many as there are is to take all
 pub take_enough : {X : Type 0} (n : ℕ) (xs : List X) → length xs ≤ n → take n xs ≡ xs

@@ -83,19 +83,11 @@ in_force one other t r = (eqb r.one one) && (eqb r.other other) && is_within r.s
 
 -- what a range in force is
 force_parts : (one other t : ℕ) (r : Range) → in_force one other t r ≡ true → (r.one ≡ one) × (r.other ≡ other) × (r.start ≤ t) × (t < r.end)
-force_parts one other t r h =
-    let a = and_parts (eqb r.one one && eqb r.other other) (is_within r.start r.end t) h in
-    let b = and_parts (eqb r.one one) (eqb r.other other) a.0 in
-    let c = and_parts (leb r.start t) (ltb t r.end) a.1 in
-    (eqb-true r.one one b.0, eqb-true r.other other b.1, leb-true r.start t c.0, ltb-true t r.end c.1)
+force_parts one other t r h = (grind (arith, nat_tests), grind (arith, nat_tests), grind (arith, nat_tests), grind (arith, nat_tests))
 
 -- what overlapping ranges are
 pub overlap_parts : (r s : Range) → overlap r s ≡ true → (r.one ≡ s.one) × (r.other ≡ s.other) × (r.start < s.end) × (s.start < r.end)
-overlap_parts r s h =
-    let a = and_parts (eqb r.one s.one && eqb r.other s.other && ltb r.start s.end) (ltb s.start r.end) h in
-    let b = and_parts (eqb r.one s.one && eqb r.other s.other) (ltb r.start s.end) a.0 in
-    let c = and_parts (eqb r.one s.one) (eqb r.other s.other) b.0 in
-    (eqb-true r.one s.one c.0, eqb-true r.other s.other c.1, ltb-true r.start s.end b.1, ltb-true s.start r.end a.1)
+overlap_parts r s h = (grind (arith, nat_tests), grind (arith, nat_tests), grind (arith, nat_tests), grind (arith, nat_tests))
 
 -- ranges that overlap, from the parts
 overlap_from : (r s : Range) → r.one ≡ s.one → r.other ≡ s.other → r.start < s.end → s.start < r.end → overlap r s ≡ true
@@ -223,13 +215,9 @@ module _ (rs : List Range) (h : IsRangeList rs) where
 
 -- ---- light times
 
--- a pair's light time is within the limit
 light_limit : (p : ContactPlan) (one other t : ℕ) → AllByRecursion (λ r. r.light ≤ 1000000) p.ranges → IfSome (light_of_pair p.ranges one other t) (λ l. l ≤ 1000000)
 light_limit p one other t h =
-    elim (find (in_force one other t) p.ranges) as (λ o. find (in_force one other t) p.ranges ≡ o → IfSome (option_map (λ (r : Range). r.light) o) (λ l. l ≤ 1000000)) [
-      | None ↦ λ _. tt
-      | Some r ↦ λ e. all_found (λ s. s.light ≤ 1000000) (in_force one other t) p.ranges r h e
-    ] refl
+    elim (find (in_force one other t) p.ranges) as (λ o. find (in_force one other t) p.ranges ≡ o → IfSome (option_map (λ (r : Range). r.light) o) (λ l. l ≤ 1000000)) [ None ↦ λ _. tt | Some r ↦ λ e. all_found (λ s. s.light ≤ 1000000) (in_force one other t) p.ranges r h e ] refl
 
 -- the first of two values, each within the limit, is within it
 or_else_limit : (o u : Option ℕ) → IfSome o (λ l. l ≤ 1000000) → IfSome u (λ l. l ≤ 1000000) → IfSome (or_else o u) (λ l. l ≤ 1000000)
@@ -250,14 +238,10 @@ light_of_limit p c h = light_of_small p c h.lights
 
 -- what comes no later, and doesn't tie, comes before; what doesn't comes after
 turned_after : (o : Ordering) → is_le o ≡ true → (o ≡ Equal → ⊥) → ordering_reverse o ≡ Greater
-turned_after Less le apart = refl
-turned_after Equal le apart = absurd (apart refl)
-turned_after Greater le apart = absurd cc
+turned_after o le apart = elim o as (λ o. is_le o ≡ true → (o ≡ Equal → ⊥) → ordering_reverse o ≡ Greater) [ Less ↦ λ _ _. refl | Equal ↦ λ _ no. absurd (no refl) | Greater ↦ λ e _. absurd cc ] le apart
 
 turned_before : (o : Ordering) → is_le o ≡ false → ordering_reverse o ≡ Less
-turned_before Less late = absurd cc
-turned_before Equal late = absurd cc
-turned_before Greater late = refl
+turned_before o late = elim o as (λ o. is_le o ≡ false → ordering_reverse o ≡ Less) [ Less ↦ λ e. absurd cc | Equal ↦ λ e. absurd cc | Greater ↦ λ _. refl ] late
 
 -- after those that come by its pair and start
 pub count_is_put : (p : ContactPlan) (r : Range) (i : ℕ) → IsPlan p → range_refusal p r ≡ None → IsCountUntil p.ranges (range_key r) i → insert p.ranges i r ≡ put_in by_range_key r p.ranges

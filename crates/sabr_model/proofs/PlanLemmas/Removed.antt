@@ -2,7 +2,7 @@
 use Rattle.std.proofs.Common.{◌≡◌, ℕ, zero, suc, ◌+◌, ◌<◌, Bool, true, false, cond, not, ltb, List, [], ◌∷◌, length, get_or, map, remove, refl, sym, ap, subst, ◌∙◌, inl, inr, arith}
 use Rattle.std.specs.Prelude.{slice_get, MatchOption}
 use Rattle.std.specs.List.{find, position, position_or_len, AllByRecursion}
-use Rattle.std.proofs.lemmas.Bool.{and_parts, eq-eqb, ne_eqb, ltb-true, ltb-false, cases_lt}
+use Rattle.std.proofs.lemmas.Bool.{and_parts, eq-eqb, ne_eqb, ltb-true, ltb-false, cases_lt, cond_both}
 use Rattle.std.proofs.lemmas.List.Edits.{length-remove, get_or-remove_below, get_or-remove_above}
 use Rattle.std.proofs.lemmas.List.Folds.{find_at}
 use Rattle.std.proofs.lemmas.Option.{slice_get-get_or, slice_get_past}
@@ -22,11 +22,10 @@ abbrev Finds : {X : Type 0} → (X → Bool) → List X → Option ℕ → Type 
 Finds p xs o = MatchOption o (find p xs ≡ None) (λ k. (k < length xs) × (find p xs ≡ slice_get xs k))
 
 pub found_place : {X : Type 0} (p : X → Bool) (xs : List X) (r : Option ℕ) → r ≡ position p xs → MatchOption r (find p xs ≡ None) (λ k. (k < length xs) × (find p xs ≡ slice_get xs k))
-found_place {X} p xs r e = subst (Finds p xs) (sym e) (by (ltb (position_or_len p xs) (length xs)) refl)
-  where
-    by : (b : Bool) → ltb (position_or_len p xs) (length xs) ≡ b → Finds p xs (cond (ltb (position_or_len p xs) (length xs)) (Some (position_or_len p xs)) None)
-    by true h = subst (λ b. Finds p xs (cond b (Some (position_or_len p xs)) None)) (sym h) (ltb-true (position_or_len p xs) (length xs) h, find_at p xs)
-    by false h = subst (λ b. Finds p xs (cond b (Some (position_or_len p xs)) None)) (sym h) (find_at p xs ∙ slice_get_past xs (position_or_len p xs) (ltb-false (position_or_len p xs) (length xs) h))
+found_place p xs r e =
+    let n = position_or_len p xs in
+    subst (Finds p xs) (sym e)
+    (cond_both (ltb n (length xs)) (Some n) None (Finds p xs) (λ h. (ltb-true n (length xs) h, find_at p xs)) (λ h. find_at p xs ∙ slice_get_past xs n (ltb-false n (length xs) h)))
 
 -- what is found in a list that is lent
 pub found_there : (p : Contact → Bool) (cs lent : List Contact) (i : ℕ) (x : Contact) → lent ≡ cs → (i < length lent) × (find p lent ≡ slice_get lent i) → x ≡ get_or cs i x → (i < length cs) × (find p cs ≡ Some x)

@@ -5,7 +5,8 @@ use Rattle.std.specs.List.{IsDistinct}
 use Rattle.std.specs.Cmp.{nat_eq_equiv}
 use Rattle.std.specs.Map.{keys_of, values_of}
 use Rattle.std.specs.Option.{option_map}
-use Rattle.std.proofs.lemmas.Bool.{eqb-true}
+use Rattle.std.proofs.lemmas.Bool.{eqb-true, cond_both}
+use Rattle.std.proofs.lemmas.List.{map-append}
 use Rattle.std.proofs.lemmas.Map.Entries.{length-keys_of, hash_map_get_place}
 use Rattle.std.specs.declared.option.Option.{Option}
 use Rattle.std.specs.declared.option.Option.TheVariants.{Some, None}
@@ -14,6 +15,7 @@ use Rattle.indexmap.proofs.CallerLemmas.{insert_entry-new, keys-with_value_at, u
 use Rattle.sabr_model.specs.plan.Plan.{has}
 use Rattle.sabr_model.specs.plan.Table.{list_at, with_number, KeepsPlaces}
 use Rattle.sabr_model.proofs.ListLemmas.Has.{eqb_flip}
+use Rattle.sabr_model.proofs.ListLemmas.Members.{push_old, push_new}
 use Rattle.sabr_model.proofs.PlanLemmas.Tabled.{index_tells}
 
 -- the place that is found is the node's
@@ -23,40 +25,25 @@ found_at xs n (Some k) e = subst (λ (o : Option ℕ). MatchOption o (has n xs �
 
 -- ---- one more node
 
--- nodes keep their places if one more is added
-places_push : (xs : List ℕ) (n : ℕ) → KeepsPlaces xs (xs ++ n ∷ [])
-places_push [] n k m e = absurd cc
-places_push (x ∷ xs) n zero m e = e
-places_push (x ∷ xs) n (suc k) m e = places_push xs n k m e
-
--- the node that is added is after the others
-last_at : (xs : List ℕ) (n : ℕ) → slice_get (xs ++ n ∷ []) (length xs) ≡ Some n
-last_at [] n = refl
-last_at (x ∷ xs) n = last_at xs n
-
-keys_push : {V : Type 0} (es : List (ℕ × V)) (n : ℕ) (v : V) → keys_of (es ++ (n, v) ∷ []) ≡ keys_of es ++ n ∷ []
-keys_push [] n v = refl
-keys_push (e ∷ es) n v = ap (λ ks. e.0 ∷ ks) (keys_push es n v)
-
 -- if an option has no value, it is None
-none_there : {X : Type 0} (o : Option X) → false ≡ is_some o → o ≡ None
+pub none_there : {X : Type 0} (o : Option X) → false ≡ is_some o → o ≡ None
 none_there None e = refl
 none_there (Some x) e = absurd cc
 
 module _ {V S : Type 0} (table new : IndexMap ℕ V S) (n : ℕ) (v : V) (missing : false ≡ is_some (get nat_eq table n)) (entries : new.entries ≡ insert_entry nat_eq table.entries n v) where
   new_keys : keys new ≡ keys table ++ n ∷ []
-  new_keys = ap keys_of (entries ∙ insert_entry-new nat_eq table n v (none_there (get nat_eq table n) missing)) ∙ keys_push table.entries n v
+  new_keys = ap keys_of (entries ∙ insert_entry-new nat_eq table n v (none_there (get nat_eq table n) missing)) ∙ map-append (λ (e : ℕ × V). e.0) table.entries ((n, v) ∷ [])
 
   -- the nodes that were there keep their places
   pub new_places : KeepsPlaces (keys table) (keys new)
-  new_places = subst (KeepsPlaces (keys table)) (sym new_keys) (places_push (keys table) n)
+  new_places = subst (KeepsPlaces (keys table)) (sym new_keys) (push_old (keys table) n)
 
   -- and the new node is added after them
   pub new_at : (k : ℕ) → k ≡ index_map_len table → slice_get (keys new) k ≡ Some n
   new_at k e =
       ap (λ xs. slice_get xs k) new_keys
       ∙ ap (slice_get (keys table ++ n ∷ [])) (e ∙ sym (length-keys_of table.entries))
-      ∙ last_at (keys table) n
+      ∙ push_new (keys table) n
 
 -- ---- a list written at an index
 
@@ -80,26 +67,23 @@ module _ {A S : Type 0} (table : IndexMap ℕ (Vec ℕ A) S) (i node : ℕ) (v w
   written : (q : ℕ) → get nat_eq (with_value_at table i w) q ≡ cond (eqb node q) (Some w) (get nat_eq table q)
   written = (updates-with_value_at table i w nat_eq_equiv unique node v (entry_at table.entries i node v key value)).0
 
+  -- what the list of each node is, where it was the node's and where not
+  list_written : (q : ℕ) → (eqb q node ≡ true → list_at table q ≡ Some v.items) × (list_at (with_value_at table i w) q ≡ cond (eqb q node) (Some w.items) (list_at table q))
+  list_written q = (
+    λ e. ap (option_map (λ (x : Vec ℕ A). x.items)) (ap (get nat_eq table) (eqb-true q node e) ∙ hash_map_get_place nat_eq_equiv table i node v unique (entry_at table.entries i node v key value)),
+    ap (option_map (λ (x : Vec ℕ A). x.items)) (written q ∙ ap (λ b. cond b (Some w) (get nat_eq table q)) (eqb_flip node q))
+        ∙ elim (eqb q node) as (λ b. option_map (λ (x : Vec ℕ A). x.items) (cond b (Some w) (get nat_eq table q)) ≡ cond b (Some w.items) (list_at table q)) [ true ↦ refl | false ↦ refl ],
+  )
+
   -- a number added after the node's others
   pub list_pushed : (number : ℕ) → w.items ≡ v.items ++ number ∷ [] → (q : ℕ) → list_at (with_value_at table i w) q ≡ with_number (list_at table q) (eqb q node) number
-  list_pushed number more q = by (eqb q node) refl
-    where
-      by : (b : Bool) → eqb q node ≡ b → list_at (with_value_at table i w) q ≡ with_number (list_at table q) b number
-      by true e =
-          let held : get nat_eq table q ≡ Some v = ap (get nat_eq table) (eqb-true q node e) ∙ hash_map_get_place nat_eq_equiv table i node v unique (entry_at table.entries i node v key value) in
-          ap (option_map (λ (x : Vec ℕ A). x.items)) (written q ∙ ap (λ b. cond b (Some w) (get nat_eq table q)) (eqb_flip node q ∙ e))
-          ∙ ap Some more
-          ∙ ap (λ (o : Option (Vec ℕ A)). Some (unwrap_or (option_map (λ x. x.items) o) [] ++ number ∷ [])) (sym held)
-      by false e = ap (option_map (λ (x : Vec ℕ A). x.items)) (written q ∙ ap (λ b. cond b (Some w) (get nat_eq table q)) (eqb_flip node q ∙ e))
+  list_pushed number more q =
+      (list_written q).1
+      ∙ cond_both (eqb q node) (Some w.items) (list_at table q) (λ o. o ≡ with_number (list_at table q) (eqb q node) number)
+      (λ e. rw (e, (list_written q).0 e) (ap Some more)) (λ e. rw e refl)
 
   -- and the same numbers as before
   pub list_kept : w.items ≡ v.items → (q : ℕ) → list_at (with_value_at table i w) q ≡ list_at table q
-  list_kept same q = by (eqb q node) refl
-    where
-      by : (b : Bool) → eqb q node ≡ b → list_at (with_value_at table i w) q ≡ list_at table q
-      by true e =
-          let held : get nat_eq table q ≡ Some v = ap (get nat_eq table) (eqb-true q node e) ∙ hash_map_get_place nat_eq_equiv table i node v unique (entry_at table.entries i node v key value) in
-          ap (option_map (λ (x : Vec ℕ A). x.items)) (written q ∙ ap (λ b. cond b (Some w) (get nat_eq table q)) (eqb_flip node q ∙ e))
-          ∙ ap Some same
-          ∙ ap (λ (o : Option (Vec ℕ A)). option_map (λ x. x.items) o) (sym held)
-      by false e = ap (option_map (λ (x : Vec ℕ A). x.items)) (written q ∙ ap (λ b. cond b (Some w) (get nat_eq table q)) (eqb_flip node q ∙ e))
+  list_kept same q =
+      (list_written q).1
+      ∙ cond_both (eqb q node) (Some w.items) (list_at table q) (λ o. o ≡ list_at table q) (λ e. ap Some same ∙ sym ((list_written q).0 e)) (λ _. refl)

@@ -1,5 +1,5 @@
 -- What a plan shows of its table of nodes.
-use Rattle.std.proofs.Common.{◌≡◌, ℕ, zero, suc, Bool, true, false, cond, ◌||◌, not, eqb, ltb, List, [], ◌∷◌, length, get_or, map, refl, sym, ap, subst, ◌∙◌}
+use Rattle.std.proofs.Common.{◌≡◌, ℕ, zero, suc, ◌<◌, Bool, true, false, cond, ◌||◌, not, eqb, ltb, List, [], ◌∷◌, length, get_or, map, refl, sym, ap, subst, ◌∙◌}
 use Rattle.std.specs.Prelude.{nat_eq, slice_get, MatchOption, unwrap_or, Vec}
 use Rattle.std.specs.List.{filter, find, list_any, position, position_or_len, AllByRecursion, IsDistinct}
 use Rattle.std.specs.Map.{keys_of}
@@ -14,8 +14,11 @@ use Rattle.sabr_model.specs.declared.contact.Contact.{Contact}
 use Rattle.sabr_model.specs.plan.Plan.{ContactPlan, has, are_different}
 use Rattle.sabr_model.specs.plan.Table.{sent_by, IsTableOf}
 use Rattle.sabr_model.specs.plan.Tabled.{IsTabled}
-use Rattle.sabr_model.proofs.ListLemmas.Has.{eqb_flip}
+use Rattle.sabr_model.proofs.ListLemmas.Members.{find_in, in_map, in_filter}
 use Rattle.sabr_model.proofs.PlanLemmas.TableLemmas.{has_node}
+use Rattle.sabr_model.proofs.PlanLemmas.Without.{has_in}
+use Rattle.sabr_model.proofs.PlanLemmas.Deletions.{found_passes}
+use Rattle.sabr_model.proofs.PlanLemmas.Removed.{found_place}
 
 -- a number unequal to each is not in the list
 none_equal : (n : ℕ) (xs : List ℕ) → AllByRecursion (λ y. nat_eq n y ≡ false) xs → has n xs ≡ false
@@ -45,19 +48,11 @@ none_any p (x ∷ xs) e =
 
 -- a place that is found holds the node, and None means that the node is missing
 pub index_tells : (xs : List ℕ) (n : ℕ) → MatchOption (position (nat_eq n) xs) (has n xs ≡ false) (λ k. slice_get xs k ≡ Some n)
-index_tells xs n = by (position (nat_eq n) xs) refl
+index_tells xs n = by (position (nat_eq n) xs) (found_place (nat_eq n) xs (position (nat_eq n) xs) refl)
   where
-    by : (o : Option ℕ) → position (nat_eq n) xs ≡ o → MatchOption o (has n xs ≡ false) (λ k. slice_get xs k ≡ Some n)
-    by (Some k) e =
-        let at = position-Some (nat_eq n) xs k n e in
-        slice_get-get_or xs k n at.0 ∙ ap Some (sym (eqb-true n (get_or xs k n) at.1))
-    by None e =
-        none_any (nat_eq n) xs
-        (find_at (nat_eq n) xs
-        ∙ slice_get_past xs (position_or_len (nat_eq n) xs)
-        (ltb-false (position_or_len (nat_eq n) xs) (length xs)
-        (false_from_ne_true (ltb (position_or_len (nat_eq n) xs) (length xs)) (λ t.
-        let here : Some (position_or_len (nat_eq n) xs) ≡ None = sym (ap (λ b. cond b (Some (position_or_len (nat_eq n) xs)) None) t) ∙ e in absurd cc))))
+    by : (o : Option ℕ) → MatchOption o (find (nat_eq n) xs ≡ None) (λ k. (k < length xs) × (find (nat_eq n) xs ≡ slice_get xs k)) → MatchOption o (has n xs ≡ false) (λ k. slice_get xs k ≡ Some n)
+    by None e = none_any (nat_eq n) xs e
+    by (Some k) at = let there = slice_get-get_or xs k n at.0 in there ∙ ap Some (sym (eqb-true n (get_or xs k n) (found_passes (nat_eq n) xs (get_or xs k n) (at.1 ∙ there))))
 
 -- a node of the table is found
 pub index_of_member : (xs : List ℕ) (n : ℕ) (o : Option ℕ) → MatchOption o (has n xs ≡ false) (λ k. slice_get xs k ≡ Some n) → has n xs ≡ true → slice_get xs (unwrap_or o 0) ≡ Some n
@@ -68,20 +63,10 @@ index_of_member xs n (Some k) h there = h
 
 -- a node sends the number of each contact of which it is the sender
 pub number_sent : (cs : List Contact) (n : ℕ) (c : Contact) → find (λ d. eqb d.number n) cs ≡ Some c → has n (sent_by cs c.from) ≡ true
-number_sent [] n c found = absurd cc
-number_sent (x ∷ cs) n c found =
-    elim (eqb x.number n) as (λ b. eqb x.number n ≡ b → cond b (Some x) (find (λ d. eqb d.number n) cs) ≡ Some c → has n (map (λ (d : Contact). d.number) (cond (eqb c.from x.from) (x ∷ filter (λ d. eqb c.from d.from) cs) (filter (λ d. eqb c.from d.from) cs))) ≡ true) [
-      | true ↦ λ e f.
-          let same : x ≡ c = cc in
-          ap (λ b. has n (map (λ (d : Contact). d.number) (cond b (x ∷ filter (λ d. eqb c.from d.from) cs) (filter (λ d. eqb c.from d.from) cs)))) (eq-eqb c.from x.from (ap (λ (d : Contact). d.from) (sym same)))
-          ∙ or_left (eqb n x.number) (has n (sent_by cs c.from)) (eqb_flip n x.number ∙ e)
-      | false ↦ λ e f.
-          let rest = number_sent cs n c f in
-          elim (eqb c.from x.from) as (λ b. has n (map (λ (d : Contact). d.number) (cond b (x ∷ filter (λ d. eqb c.from d.from) cs) (filter (λ d. eqb c.from d.from) cs))) ≡ true) [
-            | true ↦ or_right (eqb n x.number) (has n (sent_by cs c.from)) rest
-            | false ↦ rest
-          ]
-    ] refl found
+number_sent cs n c found =
+    let is = find_in (λ d. eqb d.number n) cs c found in
+    subst (λ m. has m (sent_by cs c.from) ≡ true) (eqb-true c.number n is.1)
+    (has_in c.number (sent_by cs c.from) (in_map (λ (d : Contact). d.number) c (filter (λ d. eqb c.from d.from) cs) (in_filter (λ d. eqb c.from d.from) c cs is.0 (eq-eqb c.from c.from refl))))
 
 -- the number at a place is in the list
 pub has_place : (xs : List ℕ) (k n : ℕ) → slice_get xs k ≡ Some n → has n xs ≡ true

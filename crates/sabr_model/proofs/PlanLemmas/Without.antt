@@ -1,16 +1,20 @@
 -- The contacts without one of them, and the table of nodes after its deletion.
-use Rattle.std.proofs.Common.{◌≡◌, ℕ, ◌<◌, Bool, true, false, cond, ◌||◌, ◌&&◌, not, eqb, ltb, List, [], ◌∷◌, map, refl, sym, ap, subst, ◌∙◌, arith}
+use Rattle.std.proofs.Common.{◌≡◌, ℕ, ◌<◌, Bool, true, false, cond, ◌||◌, ◌&&◌, not, eqb, ltb, List, [], ◌∷◌, map, refl, sym, ap, subst, ◌∙◌, inl, inr, arith}
 use Rattle.std.specs.Prelude.{nat_eq, Vec}
 use Rattle.std.specs.List.{filter, find, list_any, AllByRecursion}
 use Rattle.std.specs.Bool.{then_some}
 use Rattle.std.specs.Option.{option_map}
-use Rattle.std.proofs.lemmas.Bool.{and_parts, or_left, or_right, or_from, eqb-true, eq-eqb, ltb-true, both_ways, false_from_ne_true, not-false, cond_both}
+use Rattle.std.proofs.lemmas.Bool.{and_parts, or_from, eqb-true, ltb-true, both_ways, false_from_ne_true, not-false, cond_both}
 use Rattle.std.specs.declared.option.Option.TheVariants.{Some, None}
 use Rattle.indexmap.specs.IndexMap.{IndexMap, IsUnique}
 use Rattle.sabr_model.specs.declared.contact.Contact.{Contact}
 use Rattle.sabr_model.specs.plan.Plan.{has, rises_above}
 use Rattle.sabr_model.specs.plan.Table.{sent_by, ends_of, without_number, list_at, IsTableOf}
+use Rattle.std.specs.Cmp.{nat_eq_equiv}
+use Rattle.std.proofs.Math.Bool.{or_assoc}
+use Rattle.std.proofs.lemmas.Map.Views.{list_any-from_Contains}
 use Rattle.sabr_model.proofs.ListLemmas.Has.{eqb_flip, without_absent}
+use Rattle.sabr_model.proofs.ListLemmas.Members.{IsIn, Contains-from_in, in_flat_map, find_in}
 
 -- the numbers of rising contacts are above the bound
 pub all_above : (low : ℕ) (cs : List Contact) → rises_above low (map (λ d. d.number) cs) ≡ true → AllByRecursion (λ d. low < d.number) cs
@@ -75,25 +79,19 @@ in_use_is n q (x ∷ cs) =
       | true ↦ in_use_is n q cs
       | false ↦ or_assoc (eqb q x.from) (eqb q x.to) (list_any (λ d. not (eqb d.number n) && (eqb q d.from || eqb q d.to)) cs) ∙ ap (λ b. eqb q x.from || (eqb q x.to || b)) (in_use_is n q cs)
     ]
-  where
-    or_assoc : (a b c : Bool) → ((a || b) || c) ≡ (a || (b || c))
-    or_assoc true b c = refl
-    or_assoc false b c = refl
+
+-- a number of a list is found in it
+pub has_in : (x : ℕ) (ys : List ℕ) → IsIn x ys → has x ys ≡ true
+has_in x ys is = list_any-from_Contains nat_eq_equiv x ys (Contains-from_in ys x is)
 
 -- the nodes of a standing contact are in use
+pub ends_in : (c : Contact) (cs : List Contact) → IsIn c cs → (has c.from (ends_of cs) ≡ true) × (has c.to (ends_of cs) ≡ true)
+ends_in c cs is =
+    let ends = λ (d : Contact). d.from ∷ d.to ∷ [] in
+    (has_in c.from (ends_of cs) (in_flat_map ends c.from c cs is (inl refl)), has_in c.to (ends_of cs) (in_flat_map ends c.to c cs is (inr (inl refl))))
+
 pub ends_of_found : (cs : List Contact) (n : ℕ) (c : Contact) → find (λ d. eqb d.number n) cs ≡ Some c → (has c.from (ends_of cs) ≡ true) × (has c.to (ends_of cs) ≡ true)
-ends_of_found [] n c found = absurd cc
-ends_of_found (x ∷ cs) n c found =
-    elim (eqb x.number n) as (λ b. cond b (Some x) (find (λ d. eqb d.number n) cs) ≡ Some c → (has c.from (ends_of (x ∷ cs)) ≡ true) × (has c.to (ends_of (x ∷ cs)) ≡ true)) [
-      | true ↦ λ is. (let same : x ≡ c = cc in (
-        or_left (eqb c.from x.from) (eqb c.from x.to || has c.from (ends_of cs)) (eq-eqb c.from x.from (ap (λ (d : Contact). d.from) (sym same))),
-        or_right (eqb c.to x.from) (eqb c.to x.to || has c.to (ends_of cs)) (or_left (eqb c.to x.to) (has c.to (ends_of cs)) (eq-eqb c.to x.to (ap (λ (d : Contact). d.to) (sym same)))),
-      ))
-      | false ↦ λ behind. (let rest = ends_of_found cs n c behind in (
-        or_right (eqb c.from x.from) (eqb c.from x.to || has c.from (ends_of cs)) (or_right (eqb c.from x.to) (has c.from (ends_of cs)) rest.0),
-        or_right (eqb c.to x.from) (eqb c.to x.to || has c.to (ends_of cs)) (or_right (eqb c.to x.to) (has c.to (ends_of cs)) rest.1),
-      ))
-    ] found
+ends_of_found cs n c found = ends_in c cs (find_in (λ d. eqb d.number n) cs c found).0
 
 -- what a node sends without one number
 pub sent_by-without : (cs : List Contact) (n q : ℕ) → sent_by (without_number n cs) q ≡ filter (λ k. not (eqb k n)) (sent_by cs q)
@@ -115,29 +113,19 @@ sent_by-without (x ∷ cs) n q =
 
 -- ---- the table
 
--- a node that is both sender and receiver is removed once
-two : {X : Type 0} (u : Bool) (x : X) → cond (not u) None (cond (not u) None (Some x)) ≡ then_some u x
-two true x = refl
-two false x = refl
-
--- a node is removed unless it is used
-once_gone : {X : Type 0} (u : Bool) (x : X) → cond (not u) None (Some x) ≡ then_some u x
-once_gone true x = refl
-once_gone false x = refl
-
 -- what is left for a node: is_from and is_to say whether it is the contact's sender or receiver
 left : (is_from is_to from_used to_used used was : Bool) (f : List ℕ → List ℕ) (xs : List ℕ)
     → (is_from ≡ true → from_used ≡ used) → (is_to ≡ true → to_used ≡ used) → (is_from ≡ true → was ≡ true) → (is_to ≡ true → was ≡ true) → (is_from ≡ false → is_to ≡ false → used ≡ was)
     → cond (is_to && not to_used) None (cond (is_from && not from_used) None (cond is_from (option_map f (then_some was xs)) (then_some was xs))) ≡ then_some used (cond is_from (f xs) xs)
 left true true from_used to_used used was f xs a b c d e =
     let p : from_used ≡ used = a refl in let q : to_used ≡ used = b refl in let r : was ≡ true = c refl in
-    rw (p, q, r) (two used (f xs))
+    rw (p, q, r) (elim used as (λ u. cond (not u) None (cond (not u) None (Some (f xs))) ≡ then_some u (f xs)) [ true ↦ refl | false ↦ refl ])
 left true false from_used to_used used was f xs a b c d e =
     let p : from_used ≡ used = a refl in let r : was ≡ true = c refl in
-    rw (p, r) (once_gone used (f xs))
+    rw (p, r) (elim used as (λ u. cond (not u) None (Some (f xs)) ≡ then_some u (f xs)) [ true ↦ refl | false ↦ refl ])
 left false true from_used to_used used was f xs a b c d e =
     let q : to_used ≡ used = b refl in let r : was ≡ true = d refl in
-    rw (q, r) (once_gone used xs)
+    rw (q, r) (elim used as (λ u. cond (not u) None (Some xs) ≡ then_some u xs) [ true ↦ refl | false ↦ refl ])
 left false false from_used to_used used was f xs a b c d e = ap (λ u. then_some u xs) (sym (e refl refl))
 
 -- the table after a deletion

@@ -5,7 +5,6 @@ use Rattle.sabr_model.specs.declared.plan.known.Known.{Known}
 use Rattle.sabr_model.specs.plan.Known.{IsKnown}
 use Rattle.sabr_model.specs.plan.Light.{light_of}
 use Rattle.sabr_model.specs.plan.Plan.{ContactPlan, TabledPlan}
-use Rattle.sabr_model.specs.plan.RangeOrder.{IsRangeList}
 use Rattle.sabr_model.specs.plan.Tabled.{IsHopOf}
 use Rattle.sabr_model.proofs.PlanLemmas.RangeOrder.{range_list}
 use Rattle.sabr_model.proofs.plan.Plan.hop_of.Goals as goal
@@ -13,8 +12,7 @@ use Rattle.sabr_model.proofs.plan.Plan.hop_of.Goals.{then-self, else-self}
 
 pub light_of_contact-light-requires : goal.light_of_contact-light-requires
 light_of_contact-light-requires g c =
-    let p : ContactPlan = record { contacts = c.self.inside.contacts.items; ranges = c.self.inside.ranges.items; largest = c.self.inside.largest } in
-    subst IsRangeList (sym c.deref.ensures.value) (range_list p c.self.invariant.0)
+    rw c.deref.ensures.value (range_list _ c.self.invariant.0)
 
 pub returns : goal.returns
 returns g c =

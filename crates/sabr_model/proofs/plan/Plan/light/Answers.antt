@@ -3,14 +3,12 @@ use Rattle.std.specs.Prelude.{IfSome}
 use Rattle.sabr_model.specs.declared.contact.Range.{Range}
 use Rattle.sabr_model.specs.plan.Light.{light_of}
 use Rattle.sabr_model.specs.plan.Plan.{ContactPlan, TabledPlan}
-use Rattle.sabr_model.specs.plan.RangeOrder.{IsRangeList}
 use Rattle.sabr_model.proofs.PlanLemmas.RangeOrder.{range_list, light_of_limit}
 use Rattle.sabr_model.proofs.plan.Plan.light.Goals as goal
 
 pub light_of_contact-requires : goal.light_of_contact-requires
 light_of_contact-requires g c =
-    let p : ContactPlan = record { contacts = c.self.inside.contacts.items; ranges = c.self.inside.ranges.items; largest = c.self.inside.largest } in
-    subst IsRangeList (sym c.deref.ensures.value) (range_list p c.self.invariant.0)
+    rw c.deref.ensures.value (range_list _ c.self.invariant.0)
 
 pub returns : goal.returns
 returns g c =

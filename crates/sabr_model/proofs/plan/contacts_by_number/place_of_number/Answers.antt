@@ -1,10 +1,8 @@
 use Rattle.std.proofs.Common.{◌-◌, ◌<◌, length, arith}
-use Rattle.sabr_model.specs.declared.contact.Contact.{Contact}
 use Rattle.sabr_model.proofs.PlanLemmas.Numbered.{found_here}
 use Rattle.sabr_model.proofs.plan.contacts_by_number.place_of_number.Goals as goal
 
 pub returns-then-contacts-count : goal.returns-then-contacts-count
 returns-then-contacts-count c =
-    let none : Contact = record { number = 0; from = 0; to = 0; start = 0; end = 0; rate = 0 } in
     let within : c.args.number - 1 < length c.args.contacts.now = omega (arith, c.if-count-gt0.true, c.if-count-contacts.true) in
-    (within, found_here 0 c.args.contacts.now c.args.number (c.args.number - 1) none c.requires within c.if-contacts-count.true)
+    (within, found_here 0 c.args.contacts.now c.args.number (c.args.number - 1) _ c.requires within c.if-contacts-count.true)
