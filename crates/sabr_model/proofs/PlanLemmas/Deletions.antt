@@ -1,10 +1,10 @@
 -- A plan without some of its contacts or ranges is a plan.
-use Rattle.std.proofs.Common.{◌≡◌, ℕ, ◌<◌, ◌≤◌, ◌^◌, Bool, true, false, cond, ◌&&◌, not, eqb, ltb, List, [], ◌∷◌, length, map, refl, sym, ap, subst, ◌∙◌, arith}
+use Rattle.std.proofs.Common.{◌≡◌, ℕ, ◌<◌, ◌≤◌, ◌^◌, Bool, true, false, cond, not, eqb, ltb, List, [], ◌∷◌, length, map, refl, sym, ap, subst, ◌∙◌, arith}
 use Rattle.sabr_model.proofs.ListLemmas.Members.{all_in, find_in}
 use Rattle.sabr_model.proofs.ListLemmas.Ordered.{all_weaker}
 use Rattle.std.specs.List.{filter, find, list_any, AllByRecursion}
 use Rattle.std.specs.List.Sorted.{IsStrictlySortedBy}
-use Rattle.std.proofs.lemmas.Bool.{and_parts, and_from, or_parts, or_from, not-true, not_from_false, eqb-true, eq-eqb, ne_eqb, lt-ltb, ltb-true, both_ways, cond_both}
+use Rattle.std.proofs.lemmas.Bool.{and_parts, and_from, or_parts, or_from, not-true, not_from_false, eq-eqb, ne_eqb, lt-ltb, ltb-true, both_ways, cond_both}
 use Rattle.std.proofs.lemmas.Bool.Decides.{nat_tests}
 use Rattle.std.proofs.lemmas.List.Elements.{All-filter, All-from_recursion, recursion_from_All}
 use Rattle.std.specs.declared.option.Option.TheVariants.{Some}
@@ -15,6 +15,12 @@ use Rattle.sabr_model.specs.Order.{by_key}
 use Rattle.sabr_model.specs.plan.Plan.{ContactPlan, IsPlan, IsWindow, IsPair, rises_above, opens, same_opening, overlap, none_twice, range_key}
 use Rattle.sabr_model.specs.plan.Table.{without_number}
 use Rattle.sabr_model.proofs.PlanLemmas.Without.{all_above, is_one}
+
+-- two tests, each of which implies the other, are the same
+alike : (a b : Bool) → (a ≡ true → b ≡ true) → (b ≡ true → a ≡ true) → a ≡ b
+alike true b f g = sym (f refl)
+alike false true f g = g refl
+alike false false f g = refl
 
 module _ {X : Type 0} where
   pub all_filter : (P : X → Type 0) (t : X → Bool) (xs : List X) → AllByRecursion P xs → AllByRecursion P (filter t xs)
@@ -58,17 +64,12 @@ module _ {X : Type 0} where
   any_none p [] none = tt
   any_none p (x ∷ xs) none = let parts = or_parts (p x) (list_any p xs) none in (parts.0, any_none p xs parts.1)
 
-  -- two tests that agree on a list filter it alike
-  filter_alike : (p q : X → Bool) (xs : List X) → AllByRecursion (λ x. p x ≡ q x) xs → filter (λ x. not (p x)) xs ≡ filter (λ x. not (q x)) xs
-  filter_alike p q [] all = refl
-  filter_alike p q (x ∷ xs) all =
-      ap (λ b. cond (not b) (x ∷ filter (λ y. not (p y)) xs) (filter (λ y. not (p y)) xs)) all.0
-      ∙ ap (λ ys. cond (not (q x)) (x ∷ ys) ys) (filter_alike p q xs all.1)
-
-  -- two facts of each element imply a third
-  all_two : (P Q R : X → Type 0) → ((x : X) → P x → Q x → R x) → (xs : List X) → AllByRecursion P xs → AllByRecursion Q xs → AllByRecursion R xs
-  all_two P Q R gives [] p q = tt
-  all_two P Q R gives (x ∷ xs) p q = (gives x p.0 q.0, all_two P Q R gives xs p.1 q.1)
+  -- two tests that the same element alone passes filter a list alike
+  filter_alike : (p q : X → Bool) (c : X) (xs : List X) → p c ≡ true → q c ≡ true → AllByRecursion (λ x. p x ≡ true → x ≡ c) xs → AllByRecursion (λ x. q x ≡ true → x ≡ c) xs → filter (λ x. not (p x)) xs ≡ filter (λ x. not (q x)) xs
+  filter_alike p q c [] one other only also = refl
+  filter_alike p q c (x ∷ xs) one other only also =
+      ap (λ b. cond (not b) (x ∷ filter (λ y. not (p y)) xs) (filter (λ y. not (p y)) xs)) (alike (p x) (q x) (λ yes. subst (λ e. q e ≡ true) (sym (only.0 yes)) other) (λ yes. subst (λ e. p e ≡ true) (sym (also.0 yes)) one))
+      ∙ ap (λ ys. cond (not (q x)) (x ∷ ys) ys) (filter_alike p q c xs one other only.1 also.1)
 
 -- numbers that rise above a bound rise above a lesser bound
 rises_weaker : (low high : ℕ) (xs : List ℕ) → low ≤ high → rises_above high xs ≡ true → rises_above low xs ≡ true
@@ -177,22 +178,9 @@ opening_one from to start (x ∷ cs) c none found =
       | false ↦ λ h e. ((λ yes. absurd (both_ways (opens from to start x) h yes)), opening_one from to start cs c parts.1 e)
     ] refl found
 
--- two tests, each of which implies the other, are the same
-alike : (a b : Bool) → (a ≡ true → b ≡ true) → (b ≡ true → a ≡ true) → a ≡ b
-alike true b f g = sym (f refl)
-alike false true f g = g refl
-alike false false f g = refl
-
 -- filtering out the opening filters out the number
 pub without_opening : (p : ContactPlan) (from to start : ℕ) (c : Contact) → IsPlan p → find (opens from to start) p.contacts ≡ Some c → filter (λ d. not (opens from to start d)) p.contacts ≡ without_number c.number p.contacts
 without_opening p from to start c h found =
-    let by_number = found_by_number 0 (opens from to start) p.contacts c h.numbers_rise found in
-    let opened = found_passes (opens from to start) p.contacts c found in
-    filter_alike (opens from to start) (λ d. eqb d.number c.number) p.contacts
-    (all_two (λ d. opens from to start d ≡ true → d ≡ c) (λ d. eqb d.number c.number ≡ true → d ≡ c) (λ d. opens from to start d ≡ eqb d.number c.number)
-    (λ d o n. alike (opens from to start d) (eqb d.number c.number)
-    (λ yes. eq-eqb d.number c.number (ap (λ (e : Contact). e.number) (o yes)))
-    (λ yes. subst (λ e. opens from to start e ≡ true) (sym (n yes)) opened))
-    p.contacts
+    filter_alike (opens from to start) (λ d. eqb d.number c.number) c p.contacts (found_passes (opens from to start) p.contacts c found) (eq-eqb c.number c.number refl)
     (opening_one from to start p.contacts c h.openings_differ found)
-    (is_one 0 p.contacts c.number c h.numbers_rise by_number))
+    (is_one 0 p.contacts c.number c h.numbers_rise (found_by_number 0 (opens from to start) p.contacts c h.numbers_rise found))

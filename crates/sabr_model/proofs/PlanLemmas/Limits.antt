@@ -17,39 +17,21 @@ rise_within : (low top : ℕ) (cs : List Contact) → low ≤ top → rises_abov
 rise_within low top [] le rises all = omega (arith, le)
 rise_within low top (c ∷ cs) le rises all =
     let parts = and_parts (ltb low c.number) (rises_above c.number (map (λ d. d.number) cs)) rises in
-    let above = ltb-true low c.number parts.0 in
-    let rest = rise_within c.number top cs all.0 parts.1 all.1 in
-    omega (arith, above, rest)
+    omega (arith, ltb-true low c.number parts.0, rise_within c.number top cs all.0 parts.1 all.1)
 
 -- the contacts
 pub few_contacts : (p : ContactPlan) → IsPlan p → length p.contacts ≤ most_records
-few_contacts p plan =
-    let within = rise_within 0 p.largest p.contacts (omega arith) plan.numbers_rise plan.numbers_given in
-    let given = plan.count in
-    omega (arith, within, given)
+few_contacts p plan = omega (arith, rise_within 0 p.largest p.contacts (omega arith) plan.numbers_rise plan.numbers_given, plan.count)
 
 two_ends : (cs : List Contact) → length (ends_of cs) ≡ length cs + length cs
 two_ends [] = refl
-two_ends (c ∷ cs) = let rest = two_ends cs in omega (arith, rest)
+two_ends (c ∷ cs) = omega (arith, two_ends cs)
 
 -- their nodes
 pub few_nodes : (cs : List Contact) → length cs ≤ most_records → node_count cs ≤ 40000
-few_nodes cs few =
-    let within = distinct_count-le nat_eq (ends_of cs) in
-    let ends = two_ends cs in
-    omega (arith, within, ends, few)
-
--- the nodes of their table
-few_keys : {S A : Type 0} (cs : List Contact) (table : IndexMap ℕ (Vec ℕ A) S) → IsTableOf cs table → length cs ≤ most_records → length (keys table) ≤ 40000
-few_keys cs table h few =
-    let counted = counts_nodes cs table h in
-    let within = few_nodes cs few in
-    let entries = length-keys_of table.entries in
-    omega (arith, counted, within, entries)
+few_nodes cs few = omega (arith, distinct_count-le nat_eq (ends_of cs), two_ends cs)
 
 -- so the index of each of them takes 16 bits
 pub short_index : {S A : Type 0} (cs : List Contact) (table : IndexMap ℕ (Vec ℕ A) S) (place node : ℕ) → IsTableOf cs table → length cs ≤ most_records → slice_get (keys table) place ≡ Some node → place < 65536
 short_index cs table place node h few at =
-    let within = slice_get_within (keys table) place node at in
-    let all = few_keys cs table h few in
-    omega (arith, within, all)
+    omega (arith, slice_get_within (keys table) place node at, length-keys_of table.entries, counts_nodes cs table h, few_nodes cs few)

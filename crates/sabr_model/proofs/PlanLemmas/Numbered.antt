@@ -1,9 +1,9 @@
 -- Contacts whose numbers rise: how far a number can be from its place, and the only contact with a number.
-use Rattle.std.proofs.Common.{◌≡◌, ℕ, zero, suc, ◌+◌, ◌<◌, ◌≤◌, true, cond, eqb, ltb, List, [], ◌∷◌, length, get_or, map, refl, ap, ◌∙◌, arith}
+use Rattle.std.proofs.Common.{◌≡◌, ℕ, zero, suc, ◌+◌, ◌<◌, ◌≤◌, true, cond, eqb, ltb, List, [], ◌∷◌, length, get_or, map, ap, ◌∙◌, arith}
 use Rattle.std.specs.Prelude.{slice_get}
 use Rattle.std.specs.List.{find}
 use Rattle.std.proofs.lemmas.Bool.{and_parts, ltb-true, ne_eqb, eq-eqb}
-use Rattle.std.specs.declared.option.Option.TheVariants.{Some, None}
+use Rattle.std.specs.declared.option.Option.TheVariants.{Some}
 use Rattle.sabr_model.specs.declared.contact.Contact.{Contact}
 use Rattle.sabr_model.specs.plan.Plan.{rises_above}
 
@@ -13,9 +13,7 @@ number_above low [] k d rises lt = absurd (omega arith)
 number_above low (c ∷ cs) zero d rises lt = let above = ltb-true low c.number (and_parts (ltb low c.number) (rises_above c.number (map (λ e. e.number) cs)) rises).0 in omega (arith, above)
 number_above low (c ∷ cs) (suc k) d rises lt =
     let parts = and_parts (ltb low c.number) (rises_above c.number (map (λ e. e.number) cs)) rises in
-    let above = ltb-true low c.number parts.0 in
-    let rest = number_above c.number cs k d parts.1 (omega arith) in
-    omega (arith, above, rest)
+    omega (arith, ltb-true low c.number parts.0, number_above c.number cs k d parts.1 (omega arith))
 
 -- numbers rise at least as fast as their places
 pub numbers_apart : (low : ℕ) (cs : List Contact) (i j : ℕ) (d e : Contact) → rises_above low (map (λ c. c.number) cs) ≡ true → i < j → j < length cs → (get_or cs i d).number + j ≤ (get_or cs j e).number + i
@@ -23,12 +21,10 @@ numbers_apart low [] i j d e rises lt within = absurd (omega arith)
 numbers_apart low (c ∷ cs) i zero d e rises lt within = absurd (omega arith)
 numbers_apart low (c ∷ cs) zero (suc j) d e rises lt within =
     let parts = and_parts (ltb low c.number) (rises_above c.number (map (λ e. e.number) cs)) rises in
-    let rest = number_above c.number cs j e parts.1 (omega arith) in
-    omega (arith, rest)
+    omega (arith, number_above c.number cs j e parts.1 (omega arith))
 numbers_apart low (c ∷ cs) (suc i) (suc j) d e rises lt within =
     let parts = and_parts (ltb low c.number) (rises_above c.number (map (λ e. e.number) cs)) rises in
-    let rest = numbers_apart c.number cs i j d e parts.1 (omega arith) (omega arith) in
-    omega (arith, rest)
+    omega (arith, numbers_apart c.number cs i j d e parts.1 (omega arith) (omega arith))
 
 -- a search for a number finds the contact at the place with this number
 pub found_here : (low : ℕ) (cs : List Contact) (n k : ℕ) (d : Contact) → rises_above low (map (λ c. c.number) cs) ≡ true → k < length cs → (get_or cs k d).number ≡ n → find (λ c. eqb c.number n) cs ≡ slice_get cs k
@@ -38,10 +34,3 @@ found_here low (c ∷ cs) n (suc k) d rises lt is =
     let parts = and_parts (ltb low c.number) (rises_above c.number (map (λ e. e.number) cs)) rises in
     let above = number_above c.number cs k d parts.1 (omega arith) in
     ap (λ b. cond b (Some c) (find (λ c. eqb c.number n) cs)) (ne_eqb c.number n (λ e. omega (arith, e, above, is))) ∙ found_here c.number cs n k d parts.1 (omega arith) is
-
--- a number that is at no place names no contact
-pub found_nowhere : (cs : List Contact) (n : ℕ) → ((k : ℕ) (d : Contact) → k < length cs → (get_or cs k d).number ≡ n → ⊥) → find (λ c. eqb c.number n) cs ≡ None
-found_nowhere [] n none = refl
-found_nowhere (c ∷ cs) n none =
-    ap (λ b. cond b (Some c) (find (λ c. eqb c.number n) cs)) (ne_eqb c.number n (none zero c (omega arith)))
-    ∙ found_nowhere cs n (λ k d lt. none (suc k) d (omega arith))

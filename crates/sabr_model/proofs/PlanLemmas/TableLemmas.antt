@@ -13,7 +13,6 @@ use Rattle.std.proofs.lemmas.List.Folds.{list_any-append}
 use Rattle.std.proofs.lemmas.Grind.{flat_map-append}
 use Rattle.std.proofs.lemmas.Map.Entries.{length-keys_of}
 use Rattle.std.proofs.lemmas.Map.Made.{length-from_keys, is_some-lookup}
-use Rattle.std.specs.declared.option.Option.{Option}
 use Rattle.std.specs.declared.option.Option.TheVariants.{Some, None}
 use Rattle.indexmap.specs.IndexMap.{IndexMap, get, index_map_len, IsUnique}
 use Rattle.sabr_model.specs.declared.contact.Contact.{Contact}
@@ -35,34 +34,19 @@ sent_by-push cs c q =
     ∙ map-append (λ (d : Contact). d.number) (filter (λ d. eqb q d.from) cs) (filter (λ d. eqb q d.from) (c ∷ []))
     ∙ ap (λ xs. sent_by cs q ++ xs) (elim (eqb q c.from) as (λ b. map (λ (d : Contact). d.number) (cond b (c ∷ []) []) ≡ cond b (c.number ∷ []) []) [ true ↦ refl | false ↦ refl ])
 
--- if it is None, the condition was false
-then_none : {X : Type 0} (b : Bool) (x : X) → None ≡ then_some b x → b ≡ false
-then_none true x e = absurd cc
-then_none false x e = refl
-
 -- a node that is not in the table sends nothing
 pub none_sent : {S A : Type 0} (cs : List Contact) (table : IndexMap ℕ (Vec ℕ A) S) (q : ℕ) → IsTableOf cs table → None ≡ get nat_eq table q → [] ≡ sent_by cs q
 none_sent {A = A} cs table q h e =
     let none : None ≡ then_some (has q (ends_of cs)) (sent_by cs q) = ap (option_map (λ (v : Vec ℕ A). v.items)) e ∙ h.lists q in
-    sym (sends_nothing cs q (then_none (has q (ends_of cs)) (sent_by cs q) none))
-
--- there is a value if and only if the condition is true
-is_some-then_some : {X : Type 0} (b : Bool) (x : X) → is_some (then_some b x) ≡ b
-is_some-then_some true x = refl
-is_some-then_some false x = refl
-
--- mapping an option keeps whether it has a value
-is_some-option_map : {X Y : Type 0} (f : X → Y) (o : Option X) → is_some (option_map f o) ≡ is_some o
-is_some-option_map f None = refl
-is_some-option_map f (Some x) = refl
+    sym (sends_nothing cs q (elim (has q (ends_of cs)) as (λ b. None ≡ then_some b (sent_by cs q) → b ≡ false) [ true ↦ λ e. absurd cc | false ↦ λ _. refl ] none))
 
 -- the table has exactly the nodes of the contacts
 pub has_node : {S A : Type 0} (cs : List Contact) (table : IndexMap ℕ (Vec ℕ A) S) (q : ℕ) → IsTableOf cs table → has q (keys_of table.entries) ≡ has q (ends_of cs)
 has_node {A = A} cs table q h =
     sym (is_some-lookup (nat_eq q) table.entries)
-    ∙ sym (is_some-option_map (λ (v : Vec ℕ A). v.items) (get nat_eq table q))
+    ∙ elim (get nat_eq table q) as (λ o. is_some o ≡ is_some (option_map (λ (v : Vec ℕ A). v.items) o)) [ None ↦ refl | Some v ↦ refl ]
     ∙ ap is_some (h.lists q)
-    ∙ is_some-then_some (has q (ends_of cs)) (sent_by cs q)
+    ∙ elim (has q (ends_of cs)) as (λ b. is_some (then_some b (sent_by cs q)) ≡ b) [ true ↦ refl | false ↦ refl ]
 
 -- the table has as many entries as there are nodes
 pub counts_nodes : {S A : Type 0} (cs : List Contact) (table : IndexMap ℕ (Vec ℕ A) S) → IsTableOf cs table → index_map_len table ≡ node_count cs

@@ -1,12 +1,13 @@
-use Rattle.std.proofs.Common.{◌≡◌, ℕ, ◌<◌, ◌≤◌, true, List, Some, None, Ok, Err, length, get_or, map, inl, inr, arith, ap, subst, tests, rules}
-use Rattle.std.proofs.lemmas.Bool.{cases_order, cases_lt}
+use Rattle.std.proofs.Common.{◌≡◌, ℕ, ◌<◌, ◌≤◌, true, eqb, List, Some, None, Ok, Err, length, get_or, map, inl, inr, arith, ap, subst, tests, rules}
+use Rattle.std.proofs.lemmas.Bool.{cases_order, cases_lt, eqb-true}
 use Rattle.std.proofs.lemmas.List.Sorted.{answers_always}
 use Rattle.std.specs.Cmp.{ranks}
 use Rattle.std.specs.Ordering.{nat_cmp, ordering_index, MatchOrdering}
 use Rattle.std.specs.List.Sorted.{IsBinarySearchResult}
 use Rattle.sabr_model.specs.declared.contact.Contact.{Contact}
 use Rattle.sabr_model.specs.plan.Plan.{rises_above, IsPlaceOf}
-use Rattle.sabr_model.proofs.PlanLemmas.Numbered.{numbers_apart, found_here, found_nowhere}
+use Rattle.sabr_model.proofs.PlanLemmas.Numbered.{numbers_apart, found_here}
+use Rattle.sabr_model.proofs.PlanLemmas.RangeOrder.{find_none}
 use Rattle.sabr_model.proofs.plan.contacts_by_number.searched_place.Goals as goal
 
 module _ (cs : List Contact) (n : ℕ) (rises : rises_above 0 (map (λ c. c.number) cs) ≡ true) where
@@ -34,7 +35,8 @@ module _ (cs : List Contact) (n : ℕ) (rises : rises_above 0 (map (λ c. c.numb
   nowhere : (k : ℕ) → IsBinarySearchResult (λ c. nat_cmp c.number n) cs (Err k) → IsPlaceOf cs n None
   nowhere k h =
       let parted = h (λ a b d le lt. higher (get_or cs a d).number (get_or cs b d).number (rising a b d le lt)) in
-      found_nowhere cs n (λ i d lt is.
+      find_none (λ c. eqb c.number n) cs (λ i d lt same.
+      let is = eqb-true (get_or cs i d).number n same in
       elim (cases_lt i k) [
         | inl below ↦ let less = subst (λ o. MatchOrdering o ((get_or cs i d).number < n) ((get_or cs i d).number ≡ n) (n < (get_or cs i d).number)) (parted.0 i d (omega arith) below) (told i d) in omega (arith, less, is)
         | inr above ↦ let more = subst (λ o. MatchOrdering o ((get_or cs i d).number < n) ((get_or cs i d).number ≡ n) (n < (get_or cs i d).number)) (parted.1 i d above lt) (told i d) in omega (arith, more, is)
