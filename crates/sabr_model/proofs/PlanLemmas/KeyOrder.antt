@@ -1,7 +1,7 @@
 -- The order of keys of three numbers, as inequations.
 use Rattle.std.proofs.Common.{◌≡◌, ℕ, ◌+◌, ◌≤◌, Bool, true, false, refl, sym, ap, arith}
 use Rattle.std.specs.Cmp.{IsTotalOrder}
-use Rattle.std.specs.Ordering.{ordering_then, partial_ordering_then, is_lt, is_le, is_gt, is_some_and}
+use Rattle.std.specs.Ordering.{ordering_then, partial_ordering_then, is_lt, is_le, is_some_and}
 use Rattle.std.specs.declared.cmp.Ordering.{Ordering}
 use Rattle.std.specs.declared.cmp.Ordering.TheVariants.{Less, Equal, Greater}
 use Rattle.std.specs.declared.option.Option.TheVariants.{Some}
@@ -20,9 +20,6 @@ pub record IsBy (gap : ℕ) (x y : ℕ × ℕ × ℕ) : Type 0 where
 
 pub less_is : (x y : ℕ × ℕ × ℕ) → by_key x y ≡ Less → IsBy 1 x y
 less_is x y h = record { first = grind (arith, nat_tests); second = λ e. grind (arith, nat_tests); third = λ e f. grind (arith, nat_tests) }
-
-pub greater_is : (x y : ℕ × ℕ × ℕ) → is_gt (by_key x y) ≡ true → IsBy 1 y x
-greater_is x y h = record { first = grind (arith, nat_tests); second = λ e. grind (arith, nat_tests); third = λ e f. grind (arith, nat_tests) }
 
 pub le_is : (x y : ℕ × ℕ × ℕ) → is_le (by_key x y) ≡ true → IsBy 0 x y
 le_is x y h = record { first = grind (arith, nat_tests); second = λ e. grind (arith, nat_tests); third = λ e f. grind (arith, nat_tests) }

@@ -1,5 +1,5 @@
 -- What a plan stores of its contacts.
-use Rattle.std.proofs.Common.{◌≡◌, ℕ, zero, suc, ◌+◌, ◌<◌, ◌≤◌, true, eqb, List, [], ◌∷◌, ◌++◌, length, get_or, take, refl, sym, ap, subst, ◌∙◌, inl, inr, arith, length-append, ◌-◌, Bool, false, cond, ◌&&◌, ltb, map, remove}
+use Rattle.std.proofs.Common.{◌≡◌, ℕ, ◌+◌, ◌<◌, ◌≤◌, true, eqb, List, [], ◌∷◌, ◌++◌, length, get_or, refl, sym, ap, subst, ◌∙◌, inl, inr, arith, length-append, ◌-◌, Bool, false, cond, ◌&&◌, ltb, map, remove}
 use Rattle.std.specs.Prelude.{Vec, slice_get, is_some, MatchOption}
 use Rattle.std.proofs.Math.ListN.{get_or-append}
 use Rattle.std.proofs.Math.Seq.{get_or-append_seam}
@@ -70,13 +70,6 @@ both_in_table cs table h k d lt =
     let c = get_or cs k d in
     let there = ends_in c cs (in_from_Contains cs c (k, lt, get_or_default cs k c d lt)) in
     (has_node cs table c.from h ∙ there.0, has_node cs table c.to h ∙ there.1)
-
--- to take as many as there are is to take all
-pub take_enough : {X : Type 0} (n : ℕ) (xs : List X) → length xs ≤ n → take n xs ≡ xs
-take_enough zero [] le = refl
-take_enough zero (x ∷ xs) le = absurd (omega arith)
-take_enough (suc n) [] le = refl
-take_enough (suc n) (x ∷ xs) le = ap (λ ys. x ∷ ys) (take_enough n xs (omega arith))
 
 -- The contacts that a plan has noted by their keys: what changes leave of them, and which contact is found.
 

@@ -66,8 +66,7 @@ module _ {X : Type 0} (cmp : X → X → Ordering) where
   length-put_le : (x : X) (ys : List X) → length (put_in cmp x ys) ≤ length ys + 1
   length-put_le x [] = omega arith
   length-put_le x (y ∷ ys) =
-      let rest = length-put_le x ys in
-      elim (cmp x y) as (λ o. length (elim o as (λ _. List X) [ Less ↦ x ∷ y ∷ ys | Equal ↦ y ∷ ys | Greater ↦ y ∷ put_in cmp x ys ]) ≤ length (y ∷ ys) + 1) [ Less ↦ omega arith | Equal ↦ omega arith | Greater ↦ omega (arith, rest) ]
+      elim (cmp x y) as (λ o. length (elim o as (λ _. List X) [ Less ↦ x ∷ y ∷ ys | Equal ↦ y ∷ ys | Greater ↦ y ∷ put_in cmp x ys ]) ≤ length (y ∷ ys) + 1) [ Less ↦ omega arith | Equal ↦ omega arith | Greater ↦ omega (arith, length-put_le x ys) ]
 
   -- an insert after all elements that come before x, and before one that comes after it, is a put
   pub insert_is_put : (x : X) (ys : List X) (i : ℕ) → i ≤ length ys → ((k : ℕ) → k < i → cmp x (get_or ys k x) ≡ Greater) → (i < length ys → cmp x (get_or ys i x) ≡ Less) → insert ys i x ≡ put_in cmp x ys

@@ -27,10 +27,6 @@ use Rattle.sabr_model.proofs.PlanLemmas.KeyOrder.{by_key_total, less_is, le_is, 
 
 -- ---- a plan's ranges
 
--- what holds of all keys holds at each place
-pub key_at : (rs : List Range) (i : ℕ) (d : Range) (P : ℕ × ℕ × ℕ → Type 0) → AllByRecursion P (map range_key rs) → i < length rs → P (range_key (get_or rs i d))
-key_at rs i d P all lt = subst P (get_or-map range_key rs i d (range_key d) lt) (all_at P (map range_key rs) i (range_key d) all (omega (arith, lt, length-map rs range_key)))
-
 -- of two ranges the one in front has the lesser key
 sorted_keys : (rs : List Range) (i j : ℕ) (d : Range) → IsStrictlySortedBy by_key (map range_key rs) → i < j → j < length rs → by_range_key (get_or rs i d) (get_or rs j d) ≡ Less
 sorted_keys rs i j d sorted lt within =

@@ -1,12 +1,12 @@
 use Rattle.std.proofs.Common.{◌≤◌, ◌+◌, ◌++◌, ◌∷◌, [], true, ℕ, List, Option, get_or, sym, subst, arith, length, take, ◌∙◌}
 use Rattle.std.specs.Prelude.{IfSome}
-use Rattle.std.proofs.lemmas.List.{take_more, length-take}
+use Rattle.std.proofs.lemmas.List.{take_more, take_all, length-take}
 use Rattle.indexmap.specs.IndexMap.{keys}
 use Rattle.sabr_model.specs.declared.contact.Contact.{Contact}
 use Rattle.sabr_model.specs.plan.Plan.{ContactPlan}
 use Rattle.sabr_model.specs.plan.Table.{IsTableOf}
 use Rattle.sabr_model.specs.plan.Known.{IsKnown, AreKnown}
-use Rattle.sabr_model.proofs.PlanLemmas.KnownLemmas.{known_push, take_enough}
+use Rattle.sabr_model.proofs.PlanLemmas.KnownLemmas.{known_push}
 use Rattle.sabr_model.proofs.PlanLemmas.RangeOrder.{light_of_small}
 use Rattle.sabr_model.proofs.PlanLemmas.TableLemmas.{IsTableOf-push}
 use Rattle.sabr_model.proofs.PlanLemmas.Limits.{short_index}
@@ -47,7 +47,7 @@ loop-contact-preserved g c =
 
 pub returns : goal.returns
 returns g c =
-    let all = take_enough c.loop-contact.contact-index c.args.contacts.now c.loop-contact-test.false in
+    let all = take_all c.loop-contact.contact-index c.args.contacts.now c.loop-contact-test.false in
     record {
       table = subst (λ ds. IsTableOf ds c.loop-contact.table) all c.loop-contact.invariant.table;
       known = subst (λ (ds : List Contact). AreKnown (keys c.loop-contact.table) c.args.ranges.now true ds c.loop-contact.known.items) all c.loop-contact.invariant.known;
