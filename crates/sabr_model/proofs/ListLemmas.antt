@@ -7,5 +7,6 @@ pub mod Has
 pub mod Apart
 pub mod Different
 pub mod CountWalks
+pub mod Names
 pub mod WrittenTexts
 pub mod ReadTexts

@@ -1,7 +1,5 @@
 -- Clauses on a `Result`, and what a result tells of the steps before it.
-use Rattle.std.proofs.Common.{◌≡◌, Bool, true, false, cond, refl}
-use Rattle.std.specs.Prelude.{Option, Some, None, Result, OnErr, Ok, Err}
-use Rattle.std.specs.Option.{option_and_then}
+use Rattle.std.proofs.Common.{◌≡◌, Bool, true, false, cond, refl, Option, Some, None, Result, OnErr, Ok, Err, option_and_then}
 
 -- what holds, holds also if a call failed
 pub on_err : {T E P : Type 0} (r : Result T E) → P → OnErr r P

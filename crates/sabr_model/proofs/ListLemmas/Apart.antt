@@ -1,15 +1,6 @@
 -- Lists in which no element occurs twice.
-use Rattle.std.proofs.Common.{◌≡◌, ℕ, Bool, true, not, List, [], ◌∷◌, ◌++◌, map, refl, sym, subst, inl, inr, ⊎_elim}
-use Rattle.std.specs.List.{filter, flat_map, list_any}
+use Rattle.sabr_model.proofs.ListLemmas.Names.{◌≡◌, ℕ, Bool, true, not, List, [], ◌∷◌, ◌++◌, map, refl, sym, subst, inl, inr, ⊎_elim, filter, flat_map, list_any, is_eq, IsTotalOrder, tied_itself, slice_cmp-IsAntisymmetric, nat_cmp-IsAntisymmetric, Ordering, Less, Equal, Greater, and_from, or_cases, not_from_false, false_from_ne_true, cond_both, by_numbers, same_numbers, none_twice}
 use Rattle.std.specs.List.Sorted.{IsStrictlySortedBy}
-use Rattle.std.specs.Ordering.{is_eq}
-use Rattle.std.specs.Cmp.{IsTotalOrder, tied_itself}
-use Rattle.std.specs.FinMap.{slice_cmp-IsAntisymmetric, nat_cmp-IsAntisymmetric}
-use Rattle.std.specs.declared.cmp.Ordering.{Ordering}
-use Rattle.std.specs.declared.cmp.Ordering.TheVariants.{Less, Equal, Greater}
-use Rattle.std.proofs.lemmas.Bool.{and_from, or_cases, not_from_false, false_from_ne_true, cond_both}
-use Rattle.sabr_model.specs.Order.{by_numbers, same_numbers}
-use Rattle.sabr_model.specs.plan.Plan.{none_twice}
 use Rattle.sabr_model.proofs.ListLemmas.Members.{IsIn, filter_in, flat_map_in, map_in, append_cases, all_in}
 
 -- no element is among those after it

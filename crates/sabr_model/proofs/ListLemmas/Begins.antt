@@ -1,16 +1,6 @@
-use Rattle.std.proofs.Common.{◌≡◌, ℕ, true, false, cond, not, eqb, List, [], ◌∷◌, ◌++◌, map, refl, sym, ap, subst, ◌∙◌, ⊎_elim, arith}
-use Rattle.std.proofs.lemmas.Bool.{and_parts, or_cases, or_right, or_left, eq-eqb, eqb-true, both_ways, not-true}
-use Rattle.std.proofs.lemmas.List.Elements.{filter_map-append}
-use Rattle.std.proofs.lemmas.List.{map-append}
-use Rattle.std.proofs.lemmas.List.Folds.{list_any-append}
+use Rattle.sabr_model.proofs.ListLemmas.Names.{◌≡◌, ℕ, true, false, cond, not, eqb, List, [], ◌∷◌, ◌++◌, map, refl, sym, ap, subst, ◌∙◌, ⊎_elim, arith, and_parts, or_cases, or_right, or_left, eq-eqb, eqb-true, both_ways, not-true, filter_map-append, map-append, list_any-append, option_and_then, Some, None, Contact, ContactPlan, contact_named, has, are_different, chain_end, receivers, contacts_of, NoRouteBeginsAnother}
 use Rattle.sabr_model.proofs.ListLemmas.Answered.{had_value, passed}
 use Rattle.sabr_model.proofs.RouteLemmas.Routes.{route_facts}
-use Rattle.std.specs.Option.{option_and_then}
-use Rattle.std.specs.declared.option.Option.TheVariants.{Some, None}
-use Rattle.sabr_model.specs.declared.contact.Contact.{Contact}
-use Rattle.sabr_model.specs.plan.Plan.{ContactPlan, contact_named, has, are_different}
-use Rattle.sabr_model.specs.routes.Route.{chain_end, receivers, contacts_of}
-use Rattle.sabr_model.specs.Laws.{NoRouteBeginsAnother}
 
 pub chain_end-append : (p : ContactPlan) (a : ℕ) (s t : List ℕ) → chain_end p a (s ++ t) ≡ option_and_then (λ b. chain_end p b t) (chain_end p a s)
 chain_end-append p a [] t = refl

@@ -1,11 +1,5 @@
 -- Numbers that differ, in parts of lists and in joined lists.
-use Rattle.std.proofs.Common.{◌≡◌, ℕ, zero, suc, ◌+◌, ◌-◌, ◌<◌, ◌≤◌, true, false, not, ◌||◌, eqb, List, [], ◌∷◌, ◌++◌, length, get_or, take, drop, refl, sym, ap, subst, ◌∙◌, arith, length-drop}
-use Rattle.std.specs.Prelude.{slice_get, Some}
-use Rattle.std.proofs.lemmas.Bool.{and_parts, and_from, or_left, or_right, eq-eqb, not-true, not_from_false, both_ways, false_from_ne_true}
-use Rattle.std.proofs.lemmas.List.{get_or-drop, get_or-take, length-take, take-append-drop}
-use Rattle.std.proofs.lemmas.List.Folds.{list_any-append}
-use Rattle.std.proofs.lemmas.Option.{slice_get_within, slice_get-get_or, get_or_from_slice_get}
-use Rattle.sabr_model.specs.plan.Plan.{has, are_different}
+use Rattle.sabr_model.proofs.ListLemmas.Names.{◌≡◌, ℕ, zero, suc, ◌+◌, ◌-◌, ◌<◌, ◌≤◌, true, false, not, ◌||◌, eqb, List, [], ◌∷◌, ◌++◌, length, get_or, take, drop, refl, sym, ap, subst, ◌∙◌, arith, length-drop, slice_get, Some, and_parts, and_from, or_left, or_right, eq-eqb, not-true, not_from_false, both_ways, false_from_ne_true, get_or-drop, get_or-take, length-take, take-append-drop, list_any-append, slice_get_within, slice_get-get_or, get_or_from_slice_get, has, are_different}
 use Rattle.sabr_model.proofs.ListLemmas.Begins.{different_apart}
 
 -- ---- joined lists

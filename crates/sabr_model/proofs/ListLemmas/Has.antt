@@ -1,10 +1,5 @@
 -- Membership in lists of numbers, and lists of different numbers.
-use Rattle.std.proofs.Common.{◌≡◌, ℕ, ◌<◌, true, false, cond, not, eqb, List, [], ◌∷◌, length, get_or, refl, ap, ◌∙◌, arith}
-use Rattle.std.specs.List.{filter}
-use Rattle.std.proofs.lemmas.Bool.{or_parts, eq-eqb}
-use Rattle.std.proofs.lemmas.Bool.Decides.{nat_tests}
-use Rattle.std.proofs.lemmas.List.Folds.{list_any_at}
-use Rattle.sabr_model.specs.plan.Plan.{has}
+use Rattle.sabr_model.proofs.ListLemmas.Names.{◌≡◌, ℕ, ◌<◌, true, false, cond, not, eqb, List, [], ◌∷◌, length, get_or, refl, ap, ◌∙◌, arith, filter, or_parts, eq-eqb, nat_tests, list_any_at, has}
 
 -- equality of numbers is symmetric
 pub eqb_flip : (a b : ℕ) → eqb a b ≡ eqb b a

@@ -1,10 +1,6 @@
 -- Bytes that are read in turn, and what they are of a reader's text.
-use Rattle.std.proofs.Common.{◌≡◌, ℕ, true, List, [], ◌∷◌, ◌++◌, length, ◌<◌, arith, refl, ap, ◌∙◌, sym, subst, append_assoc, append-nil, inl, inr, Option, Some, None}
-use Rattle.std.specs.Prelude.{eqb}
-use Rattle.std.proofs.lemmas.List.{append_cancel_left}
+use Rattle.sabr_model.proofs.ListLemmas.Names.{◌≡◌, ℕ, true, List, [], ◌∷◌, ◌++◌, length, ◌<◌, arith, refl, ap, ◌∙◌, sym, subst, append_assoc, append-nil, inl, inr, Option, Some, None, eqb, append_cancel_left, Consumes-nil, Consumes-trans, Consumes-kept, Input, Output, Gives, GivesNone, HasEnded, IsTextOf, Takes, TakesAll, none_given}
 use Rattle.std.specs.Io.KnownBytes.{Consumes, IsAtEnd}
-use Rattle.std.proofs.KnownBytes.{Consumes-nil, Consumes-trans, Consumes-kept}
-use Rattle.sabr_model.specs.Devices.{Input, Output, Gives, GivesNone, HasEnded, IsTextOf, Takes, TakesAll, none_given}
 
 -- no byte is given by doing nothing
 pub Gives-nil : (a : Input) → Gives a [] a

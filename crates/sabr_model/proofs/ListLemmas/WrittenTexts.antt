@@ -1,7 +1,5 @@
 -- Texts that are written in turn, and what this says about the joined text.
-use Rattle.std.proofs.Common.{ℕ, ◌+◌, List, [], ◌++◌, Result, Ok, Err, refl, ap, ◌∙◌, sym, append_assoc, append-nil}
-use Rattle.std.proofs.KnownBytes.{Appends-nil, Appends-trans, Appends-kept}
-use Rattle.sabr_model.specs.Devices.{Output, Takes, TakesNone, Written, WrittenInPart, WritesText}
+use Rattle.sabr_model.proofs.ListLemmas.Names.{ℕ, ◌+◌, List, [], ◌++◌, Result, Ok, Err, refl, ap, ◌∙◌, sym, append_assoc, append-nil, Appends-nil, Appends-trans, Appends-kept, Output, Takes, TakesNone, Written, WrittenInPart, WritesText}
 
 -- no byte is taken by doing nothing
 pub Takes-nil : (a : Output) → Takes a [] a

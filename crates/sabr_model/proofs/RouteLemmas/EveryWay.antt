@@ -1,28 +1,11 @@
 -- The list of all routes leaves no way out: each journey's way is listed, and none ends before the first route delivers.
-use Rattle.std.proofs.Common.{◌≡◌, ℕ, ◌≤◌, List, [], ◌∷◌, length, slice_get, refl, sym, ap, subst, inl, inr, arith, ◌+◌, true, false, cond, eqb, not, ◌∙◌}
-use Rattle.std.specs.Prelude.{◌≢◌, ◌<◌, Contains, is_some, unwrap_or}
+use Rattle.sabr_model.proofs.ListLemmas.Names.{◌≡◌, ℕ, ◌≤◌, List, [], ◌∷◌, length, slice_get, refl, sym, ap, subst, inl, inr, arith, ◌+◌, true, false, cond, eqb, not, ◌∙◌, ◌≢◌, ◌<◌, Contains, is_some, unwrap_or, nat_cmp, ordering_then, Ordering, Less, Some, None, nat_tests, slice_get_within, get_or_from_slice_get, ContactPlan, IsPlan, contact_named, has, are_different, RouteRequest, arrival_after, cost, chain_end, by_key, delivery_of, receivers, routes, CanArrive, IsJourney, MeetsNoneTwice, FirstDeliversBy, asked_at, EveryWayIsListed, list_all, option_and_then, and_parts, and_from, or_cases, eqb-true, not_from_false, cond-true, Contact}
 use Rattle.std.specs.List.Sorted.{IsStrictlySortedBy}
-use Rattle.std.specs.Ordering.{nat_cmp, ordering_then}
-use Rattle.std.specs.declared.cmp.Ordering.{Ordering}
-use Rattle.std.specs.declared.cmp.Ordering.TheVariants.{Less}
-use Rattle.std.specs.declared.option.Option.TheVariants.{Some, None}
-use Rattle.std.proofs.lemmas.Bool.Decides.{nat_tests}
-use Rattle.std.proofs.lemmas.Option.{slice_get_within, get_or_from_slice_get}
-use Rattle.sabr_model.specs.plan.Plan.{ContactPlan, IsPlan, contact_named, has, are_different}
-use Rattle.sabr_model.specs.routes.Arrival.{RouteRequest, arrival_after, cost}
-use Rattle.sabr_model.specs.routes.Route.{chain_end, by_key, delivery_of, receivers}
-use Rattle.sabr_model.specs.routes.Listing.{routes}
-use Rattle.sabr_model.specs.routes.Journeys.{CanArrive, IsJourney, MeetsNoneTwice, FirstDeliversBy, asked_at}
-use Rattle.sabr_model.specs.Laws.{EveryWayIsListed}
 use Rattle.sabr_model.proofs.ListLemmas.Members.{IsIn, all_in, in_from_Contains}
 use Rattle.sabr_model.proofs.RouteLemmas.Waiting.{no_later, no_sooner, soonest}
 use Rattle.sabr_model.proofs.RouteLemmas.Paths.{value_of}
 use Rattle.sabr_model.proofs.RouteLemmas.Routes.{route_facts, route_from_facts}
 use Rattle.sabr_model.proofs.RouteLemmas.RoutesListed.{routes_are_listed}
-use Rattle.std.specs.List.{list_all}
-use Rattle.std.specs.Option.{option_and_then}
-use Rattle.std.proofs.lemmas.Bool.{and_parts, and_from, or_cases, eqb-true, not_from_false, cond-true}
-use Rattle.sabr_model.specs.declared.contact.Contact.{Contact}
 use Rattle.sabr_model.proofs.ListLemmas.Answered.{passed}
 use Rattle.sabr_model.proofs.ListLemmas.Begins.{receivers-cons}
 

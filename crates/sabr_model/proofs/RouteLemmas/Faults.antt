@@ -1,29 +1,11 @@
 -- A list without a fault is a route, and the reverse.
-use Rattle.std.proofs.Common.{◌≡◌, ℕ, ◌+◌, max, Bool, true, false, cond, not, eqb, leb, List, [], ◌∷◌, ◌++◌, length, refl, sym, ap, subst, ◌∙◌, arith, append_assoc, min, true≢false, Option, Some, None}
-use Rattle.std.specs.Prelude.{is_none, IsTrue, ◌==◌}
-use Rattle.std.specs.Option.{option_map_or, option_and_then}
-use Rattle.std.proofs.lemmas.Bool.{eqb-true, eq-eqb, leb-true, le-leb, false_from_ne_true, not-false}
-use Rattle.std.specs.declared.option.Option.{Option}
-use Rattle.std.specs.declared.option.Option.TheVariants.{Some, None}
-use Rattle.sabr_model.specs.declared.contact.Contact.{Contact}
-use Rattle.sabr_model.specs.declared.fault.HopFault.{HopFault}
-use Rattle.sabr_model.specs.declared.fault.HopFault.TheVariants.{NoSuchContact, NotChained, NodeAgain, NoLight, TooLate, WrongEnd, AvoidedNode, TooManyHops}
-use Rattle.sabr_model.specs.plan.Plan.{ContactPlan, contact_named, has}
-use Rattle.sabr_model.specs.plan.Light.{light_of}
-use Rattle.sabr_model.specs.routes.Arrival.{RouteRequest, arrival, arrival_after}
-use Rattle.sabr_model.specs.routes.Route.{chain_end, receivers, ends_at, is_path, is_route, contacts_of, until_of, entry_of}
-use Rattle.sabr_model.specs.routes.Fault.{contact_fault, fault_at, fault_or, first_fault, fault_of}
-use Rattle.sabr_model.specs.Laws.{FaultsTellRoutes}
-use Rattle.std.proofs.lemmas.List.{append-nil}
+use Rattle.sabr_model.proofs.ListLemmas.Names.{◌≡◌, ℕ, ◌+◌, max, Bool, true, false, cond, not, eqb, leb, List, [], ◌∷◌, ◌++◌, length, refl, sym, ap, subst, ◌∙◌, arith, append_assoc, min, true≢false, Option, Some, None, is_none, IsTrue, ◌==◌, option_map_or, option_and_then, eqb-true, eq-eqb, leb-true, le-leb, false_from_ne_true, not-false, Contact, HopFault, NoSuchContact, NotChained, NodeAgain, NoLight, TooLate, WrongEnd, AvoidedNode, TooManyHops, ContactPlan, contact_named, has, light_of, RouteRequest, arrival, arrival_after, chain_end, receivers, ends_at, is_path, is_route, contacts_of, until_of, entry_of, contact_fault, fault_at, fault_or, first_fault, fault_of, FaultsTellRoutes, append-nil, fold, cons_option, filter_map-append, summary_of}
 use Rattle.sabr_model.proofs.ListLemmas.Answered.{unfailed}
 use Rattle.sabr_model.proofs.RouteLemmas.Waiting.{told_by}
 use Rattle.sabr_model.proofs.RouteLemmas.Routes.{route_facts, empty_route, end_named}
 use Rattle.sabr_model.proofs.RouteLemmas.Paths.{IsHop, value_of, path_facts, hop_facts, path_push, beginning_is_path, route_is_path, route_from_path}
 use Rattle.sabr_model.proofs.RouteLemmas.Prefixes.{empty_is_path}
-use Rattle.std.specs.List.{fold, cons_option}
 use Rattle.std.proofs.lemmas.List.Sums.{fold-append}
-use Rattle.std.proofs.lemmas.List.Elements.{filter_map-append}
-use Rattle.sabr_model.specs.routes.Telling.{summary_of}
 
 -- ---- one place
 

@@ -1,29 +1,13 @@
 -- Steps of following a list of contacts.
-use Rattle.std.proofs.Common.{◌≡◌, ◌≢◌, ℕ, IfSome, ◌+◌, ◌*◌, ◌/◌, ◌%◌, ◌^◌, ◌<◌, ◌≤◌, Bool, false, true, cond, ◌||◌, eqb, List, [], ◌∷◌, ◌++◌, map, length, take, drop, get_or, replicate, slice_get, slice_index_or, slice_set, bit_and, bit_or, w64, zero, suc, inl, inr, refl, sym, ap, ◌∙◌, append_assoc, append-nil, take-append-drop, arith, add-one, drop-cons}
-use Rattle.std.specs.Prelude.{IsTrue}
+use Rattle.sabr_model.proofs.ListLemmas.Names.{◌≡◌, ◌≢◌, ℕ, IfSome, ◌+◌, ◌*◌, ◌/◌, ◌%◌, ◌^◌, ◌<◌, ◌≤◌, Bool, false, true, cond, ◌||◌, eqb, List, [], ◌∷◌, ◌++◌, map, length, take, drop, get_or, replicate, slice_get, slice_index_or, slice_set, bit_and, bit_or, w64, zero, suc, inl, inr, refl, sym, ap, ◌∙◌, append_assoc, append-nil, take-append-drop, arith, add-one, drop-cons, IsTrue, list_any, cons_option, option_map_or, Some, None, mod-lt, cases_Bool, eq-eqb, eqb-true, false_from_ne_true, ne_eqb, or_right, get_or-set_same, get_or-set_other, list_any-append, Contact, HopFault, WrongEnd, ContactPlan, TabledPlan, IsPlan, IsWindow, contact_named, has, last_time, IsHopOf, IsTabled, RouteRequest, arrival, receivers, contacts_of, ends_at, is_path, is_route, fault_at, fault_or, first_fault, fault_of, AreMet, IsFollowedPath, IsReachedBy, receives}
 use Rattle.std.specs.Int.{bit_at}
-use Rattle.std.specs.List.{list_any, cons_option}
-use Rattle.std.specs.Option.{option_map_or}
-use Rattle.std.specs.declared.option.Option.TheVariants.{Some, None}
-use Rattle.std.proofs.Math.Nat.{mod-lt}
-use Rattle.std.proofs.lemmas.Bool.{cases_Bool, eq-eqb, eqb-true, false_from_ne_true, ne_eqb, or_right}
-use Rattle.std.proofs.lemmas.List.{get_or-set_same, get_or-set_other}
-use Rattle.std.proofs.lemmas.List.Folds.{list_any-append}
 use Rattle.std.proofs.lemmas.Nat.Bits.{bit_at-zero, bit_at_set_same, bit_at_set_other, shr_and_one}
-use Rattle.sabr_model.specs.declared.contact.Contact.{Contact}
-use Rattle.sabr_model.specs.declared.fault.HopFault.{HopFault}
-use Rattle.sabr_model.specs.declared.fault.HopFault.TheVariants.{WrongEnd}
 use Rattle.sabr_model.specs.declared.following.FollowedPath.{FollowedPath}
 use Rattle.sabr_model.specs.declared.following.Reached.{Reached}
 use Rattle.sabr_model.specs.declared.hop.Hop.{Hop}
 use Rattle.sabr_model.specs.declared.node_set.NodeSet.{NodeSet}
-use Rattle.sabr_model.specs.plan.Plan.{ContactPlan, TabledPlan, IsPlan, IsWindow, contact_named, has, last_time}
-use Rattle.sabr_model.specs.plan.Tabled.{IsHopOf, IsTabled}
-use Rattle.sabr_model.specs.routes.Arrival.{RouteRequest, arrival}
 use Rattle.sabr_model.specs.routes.Hops.{IsSmall, hop_arrival}
-use Rattle.sabr_model.specs.routes.Route.{receivers, contacts_of, ends_at, is_path, is_route}
-use Rattle.sabr_model.specs.routes.Fault.{fault_at, fault_or, first_fault, fault_of}
-use Rattle.sabr_model.specs.routes.Following.{AreMet, IsFollowedPath, IsReachedBy, has_index, receives}
+use Rattle.sabr_model.specs.routes.Following.{has_index}
 use Rattle.sabr_model.proofs.ListLemmas.Begins.{receivers-append, receivers-cons}
 use Rattle.sabr_model.proofs.ListLemmas.Members.{all_in}
 use Rattle.sabr_model.proofs.PlanLemmas.RangeOrder.{light_of_limit}

@@ -1,18 +1,6 @@
 -- The least route of a part: what it is, and how it is recognized.
-use Rattle.std.proofs.Common.{◌≡◌, ℕ, true, false, Bool, cond, List, [], ◌∷◌, refl, sym, ap, subst, ◌∙◌, inl, inr, ⊎_elim}
-use Rattle.std.specs.Prelude.{◌⊎◌, IsTrue}
-use Rattle.std.specs.List.{find}
+use Rattle.sabr_model.proofs.ListLemmas.Names.{◌≡◌, ℕ, true, false, Bool, cond, List, [], ◌∷◌, refl, sym, ap, subst, ◌∙◌, inl, inr, ⊎_elim, ◌⊎◌, IsTrue, find, nat_cmp, is_lt, ordering_reverse, ordering_then, tied_itself, nat_cmp_total, both_ways, Some, None, Ordering, Less, Equal, Greater, ContactPlan, IsPlan, RouteRequest, is_route, until_of, entry_of, by_key, routes}
 use Rattle.std.specs.List.Sorted.{IsStrictlySortedBy}
-use Rattle.std.specs.Ordering.{nat_cmp, is_lt, ordering_reverse, ordering_then}
-use Rattle.std.specs.Cmp.{tied_itself, nat_cmp_total}
-use Rattle.std.proofs.lemmas.Bool.{both_ways}
-use Rattle.std.specs.declared.option.Option.TheVariants.{Some, None}
-use Rattle.std.specs.declared.cmp.Ordering.{Ordering}
-use Rattle.std.specs.declared.cmp.Ordering.TheVariants.{Less, Equal, Greater}
-use Rattle.sabr_model.specs.plan.Plan.{ContactPlan, IsPlan}
-use Rattle.sabr_model.specs.routes.Arrival.{RouteRequest}
-use Rattle.sabr_model.specs.routes.Route.{is_route, until_of, entry_of, by_key}
-use Rattle.sabr_model.specs.routes.Listing.{routes}
 use Rattle.sabr_model.specs.routes.Parts.{goes_on, least_in}
 use Rattle.sabr_model.specs.routes.Record.{record_of, by_record}
 use Rattle.sabr_model.proofs.ListLemmas.Members.{IsIn, in_from_Contains, Contains-from_in, all_in, find_in}

@@ -1,19 +1,9 @@
 -- Every route is a candidate, and the key orders routes.
-use Rattle.std.proofs.Common.{◌≡◌, ℕ, ◌+◌, ◌<◌, ◌≤◌, true, false, not, eqb, List, [], ◌∷◌, length, map, refl, sym, ap, ◌∙◌, inl, inr, ⊎_elim, arith}
-use Rattle.std.specs.Prelude.{nat_eq}
-use Rattle.std.specs.List.{filter, find, range_with_len, AllByRecursion, IsDistinct}
-use Rattle.std.specs.Cmp.{IsTotalOrder, nat_eq_equiv}
+use Rattle.sabr_model.proofs.ListLemmas.Names.{◌≡◌, ℕ, ◌+◌, ◌<◌, ◌≤◌, true, false, not, eqb, List, [], ◌∷◌, length, map, refl, sym, ap, ◌∙◌, inl, inr, ⊎_elim, arith, nat_eq, filter, find, range_with_len, AllByRecursion, IsTotalOrder, nat_eq_equiv, slice_cmp-IsAntisymmetric, nat_cmp-IsAntisymmetric, and_parts, and_from, or_cases, or_left, or_right, eqb-true, eq-eqb, not-true, not_from_false, both_ways, false_from_ne_true, Some, Equal, Contact, ContactPlan, IsPlan, contact_named, has, are_different, RouteRequest, chain_end, receivers, IsRoute, key_of, by_key}
+use Rattle.std.specs.List.{IsDistinct}
 use Rattle.std.specs.Cmp.Lexicographic.{on_texts}
-use Rattle.std.specs.FinMap.{slice_cmp-IsAntisymmetric, nat_cmp-IsAntisymmetric}
-use Rattle.std.proofs.lemmas.Bool.{and_parts, and_from, or_cases, or_left, or_right, eqb-true, eq-eqb, not-true, not_from_false, both_ways, false_from_ne_true}
 use Rattle.std.proofs.lemmas.Map.Made.{length-le_from_is_member}
 use Rattle.std.proofs.lemmas.List.FromFn.{length-range_with_len}
-use Rattle.std.specs.declared.option.Option.TheVariants.{Some}
-use Rattle.std.specs.declared.cmp.Ordering.TheVariants.{Equal}
-use Rattle.sabr_model.specs.declared.contact.Contact.{Contact}
-use Rattle.sabr_model.specs.plan.Plan.{ContactPlan, IsPlan, contact_named, has, are_different}
-use Rattle.sabr_model.specs.routes.Arrival.{RouteRequest}
-use Rattle.sabr_model.specs.routes.Route.{chain_end, receivers, IsRoute, key_of, by_key}
 use Rattle.sabr_model.specs.routes.Listing.{lists_of_length, candidates}
 use Rattle.sabr_model.proofs.ListLemmas.Members.{IsIn, all_in, find_in, in_map, in_flat_map, in_filter, in_range}
 use Rattle.sabr_model.proofs.PlanLemmas.Deletions.{any_none}

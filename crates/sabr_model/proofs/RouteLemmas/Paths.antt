@@ -1,17 +1,6 @@
 -- Chains that can be the beginning of a route: their facts, their beginnings, and one more hop.
-use Rattle.std.proofs.Common.{◌≡◌, ℕ, ◌<◌, Bool, true, false, cond, ◌&&◌, not, eqb, List, [], ◌∷◌, ◌++◌, length, refl, sym, ap, subst, ◌∙◌, ⊎_elim, arith, length-append}
+use Rattle.sabr_model.proofs.ListLemmas.Names.{◌≡◌, ℕ, ◌<◌, Bool, true, false, cond, ◌&&◌, not, eqb, List, [], ◌∷◌, ◌++◌, length, refl, sym, ap, subst, ◌∙◌, ⊎_elim, arith, length-append, is_some, IsTrue, list_all, option_and_then, and_parts, and_from, or_cases, eqb-true, eq-eqb, not-true, not_from_false, false_from_ne_true, both_ways, list_all-append, Option, Some, None, Contact, ContactPlan, contact_named, has, are_different, RouteRequest, arrival, arrival_after, chain_end, receivers, is_path, is_route}
 use Rattle.sabr_model.proofs.ListLemmas.Different.{different_append, different_front, different_last}
-use Rattle.std.specs.Prelude.{is_some, IsTrue}
-use Rattle.std.specs.List.{list_all}
-use Rattle.std.specs.Option.{option_and_then}
-use Rattle.std.proofs.lemmas.Bool.{and_parts, and_from, or_cases, eqb-true, eq-eqb, not-true, not_from_false, false_from_ne_true, both_ways}
-use Rattle.std.proofs.lemmas.List.Folds.{list_all-append}
-use Rattle.std.specs.declared.option.Option.{Option}
-use Rattle.std.specs.declared.option.Option.TheVariants.{Some, None}
-use Rattle.sabr_model.specs.declared.contact.Contact.{Contact}
-use Rattle.sabr_model.specs.plan.Plan.{ContactPlan, contact_named, has, are_different}
-use Rattle.sabr_model.specs.routes.Arrival.{RouteRequest, arrival, arrival_after}
-use Rattle.sabr_model.specs.routes.Route.{chain_end, receivers, is_path, is_route}
 pub use Rattle.sabr_model.proofs.RouteLemmas.Routes.{path_facts, path_from_facts}
 use Rattle.sabr_model.proofs.RouteLemmas.Routes.{route_facts, route_from_facts}
 use Rattle.sabr_model.proofs.ListLemmas.Begins.{chain_end-append, receivers-append, receivers-cons, first_hop}

@@ -1,12 +1,6 @@
 -- Chains with which routes may begin and continue.
-use Rattle.std.proofs.Common.{◌≡◌, ℕ, false, ◌||◌, not, eqb, List, [], ◌∷◌, ◌++◌, refl, sym, ap, subst, ◌∙◌, arith, length-append, append_assoc}
-use Rattle.std.specs.Prelude.{IsTrue}
-use Rattle.std.proofs.lemmas.Bool.{and_parts, and_from, or_from, eqb-true, not-true, not_from_false, false_from_ne_true, both_ways}
-use Rattle.std.proofs.lemmas.List.Folds.{list_any-append}
-use Rattle.std.specs.declared.option.Option.TheVariants.{Some}
-use Rattle.sabr_model.specs.plan.Plan.{ContactPlan, has, are_different}
-use Rattle.sabr_model.specs.routes.Arrival.{RouteRequest}
-use Rattle.sabr_model.specs.routes.Route.{chain_end, receivers, is_path, is_prefix, is_route}
+use Rattle.sabr_model.proofs.ListLemmas.Names.{◌≡◌, ℕ, false, ◌||◌, not, eqb, List, [], ◌∷◌, ◌++◌, refl, sym, ap, subst, ◌∙◌, arith, length-append, append_assoc, IsTrue, and_parts, and_from, or_from, eqb-true, not-true, not_from_false, false_from_ne_true, both_ways, list_any-append, Some, ContactPlan, has, are_different, RouteRequest, chain_end, receivers, is_path, is_route}
+use Rattle.sabr_model.specs.routes.Route.{is_prefix}
 use Rattle.sabr_model.proofs.ListLemmas.Answered.{had_value}
 use Rattle.sabr_model.proofs.RouteLemmas.Routes.{route_facts, empty_route}
 use Rattle.sabr_model.proofs.ListLemmas.Begins.{chain_end-append, receivers-append, end_is_received, different_apart}

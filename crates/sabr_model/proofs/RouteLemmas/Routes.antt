@@ -1,14 +1,6 @@
 -- The tests of a path and of a route, and their facts.
-use Rattle.std.proofs.Common.{◌≡◌, ℕ, true, false, ◌&&◌, ltb, leb, not, eqb, List, [], ◌∷◌, length, refl, ap, ◌∙◌, arith}
-use Rattle.std.specs.Prelude.{is_some, IsTrue}
-use Rattle.std.proofs.lemmas.Bool.{ltb-true, leb-true, lt-ltb, le-leb, and_parts, and_from, eq-eqb, eqb-true}
-use Rattle.std.specs.List.{list_all}
-use Rattle.std.specs.Option.{option_map_or}
-use Rattle.std.specs.declared.option.Option.{Option}
-use Rattle.std.specs.declared.option.Option.TheVariants.{Some, None}
-use Rattle.sabr_model.specs.plan.Plan.{ContactPlan, has, are_different}
-use Rattle.sabr_model.specs.routes.Arrival.{RouteRequest, arrival_after}
-use Rattle.sabr_model.specs.routes.Route.{chain_end, receivers, is_route, is_path, ends_at, IsPath, IsRoute}
+use Rattle.sabr_model.proofs.ListLemmas.Names.{◌≡◌, ℕ, true, false, ◌&&◌, ltb, leb, not, eqb, List, [], ◌∷◌, length, refl, ap, ◌∙◌, arith, is_some, IsTrue, ltb-true, leb-true, lt-ltb, le-leb, and_parts, and_from, eq-eqb, eqb-true, list_all, option_map_or, Option, Some, None, ContactPlan, has, are_different, RouteRequest, arrival_after, chain_end, receivers, ends_at, IsPath, IsRoute}
+use Rattle.sabr_model.specs.routes.Route.{is_route, is_path}
 
 pub end_named : (o : Option ℕ) (d : ℕ) → option_map_or (λ b. eqb b d) o false ≡ true → o ≡ Some d
 end_named None d e = absurd cc

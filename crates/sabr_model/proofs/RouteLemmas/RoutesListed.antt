@@ -1,18 +1,11 @@
 -- The list of all routes holds exactly the routes, each once, and their keys rise strictly.
-use Rattle.std.specs.List.{filter, range_with_len, AllByRecursion}
-use Rattle.sabr_model.specs.Order.{same_numbers}
-use Rattle.sabr_model.specs.routes.Route.{is_route, by_key}
+use Rattle.sabr_model.proofs.ListLemmas.Names.{filter, range_with_len, AllByRecursion, same_numbers, is_route, by_key, RoutesAreListed, CandidatesAreListed, ◌≡◌, ℕ, zero, suc, ◌+◌, ◌<◌, ◌≤◌, true, not, List, ◌∷◌, length, map, refl, sym, subst, ◌∙◌, ⊎_elim, arith, IsTrue, and_from, has, are_different}
 use Rattle.sabr_model.specs.routes.Listing.{candidates, routes, lists_of_length}
-use Rattle.sabr_model.specs.Laws.{RoutesAreListed, CandidatesAreListed}
 use Rattle.sabr_model.proofs.ListLemmas.Members.{in_filter, filter_in, in_from_Contains, Contains-from_in, IsIn, in_range, flat_map_in, map_in}
 use Rattle.sabr_model.proofs.ListLemmas.Ordered.{all_weaker, sorted_in_order, in_order_is_in, is_in_order}
 use Rattle.sabr_model.proofs.ListLemmas.Apart.{apart-none_twice, apart-sorted, same_numbers_tell, AreApart, apart-filter, apart-map, apart-flat_map}
 use Rattle.sabr_model.proofs.RouteLemmas.Routes.{route_facts}
 use Rattle.sabr_model.proofs.RouteLemmas.Listed.{route_is_candidate, key_total, key_tells, is_candidate}
-use Rattle.std.proofs.Common.{◌≡◌, ℕ, zero, suc, ◌+◌, ◌<◌, ◌≤◌, true, not, List, ◌∷◌, length, map, refl, sym, subst, ◌∙◌, ⊎_elim, arith}
-use Rattle.std.specs.Prelude.{IsTrue}
-use Rattle.std.proofs.lemmas.Bool.{and_from}
-use Rattle.sabr_model.specs.plan.Plan.{has, are_different}
 
 pub routes_are_listed : RoutesAreListed
 unfolding routes

@@ -1,15 +1,5 @@
 -- Over a list of contacts, no bundle that waits arrives sooner than one that is sent as soon as can be.
-use Rattle.std.proofs.Common.{◌≡◌, ℕ, ◌+◌, ◌≤◌, ◌<◌, max, cond, ltb, List, [], ◌∷◌, refl, sym, ap, subst, ◌∙◌, arith}
-use Rattle.std.proofs.lemmas.Bool.{ltb-true, lt-ltb, cond-true}
-use Rattle.std.specs.Option.{option_map, option_and_then}
-use Rattle.std.specs.declared.option.Option.{Option}
-use Rattle.std.specs.declared.option.Option.TheVariants.{Some, None}
-use Rattle.sabr_model.specs.declared.contact.Contact.{Contact}
-use Rattle.sabr_model.specs.plan.Plan.{ContactPlan, contact_named}
-use Rattle.sabr_model.specs.plan.Light.{light_of}
-use Rattle.sabr_model.specs.routes.Arrival.{RouteRequest, arrival, arrival_after, cost}
-use Rattle.sabr_model.specs.routes.Journeys.{CanArrive}
-use Rattle.sabr_model.specs.Laws.{ArrivalIsMonotone}
+use Rattle.sabr_model.proofs.ListLemmas.Names.{◌≡◌, ℕ, ◌+◌, ◌≤◌, ◌<◌, max, cond, ltb, List, [], ◌∷◌, refl, sym, ap, subst, ◌∙◌, arith, ltb-true, lt-ltb, cond-true, option_map, option_and_then, Option, Some, None, Contact, ContactPlan, contact_named, light_of, RouteRequest, arrival, arrival_after, cost, CanArrive, ArrivalIsMonotone}
 use Rattle.sabr_model.proofs.ListLemmas.Answered.{had_value, passed}
 
 -- ---- from an arrival to the second at which the bundle is sent

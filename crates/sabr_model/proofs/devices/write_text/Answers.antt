@@ -1,8 +1,4 @@
-use Rattle.std.proofs.Common.{◌≡◌, ◌≢◌, ℕ, ◌+◌, ◌-◌, ◌<◌, List, [], ◌∷◌, take, drop, length, arith, sym, ◌∙◌, ap, length-drop, append-nil, refl}
-use Rattle.std.proofs.Math.Seq.{take-add}
-use Rattle.std.proofs.lemmas.List.{take-append-drop, take_all}
-use Rattle.std.proofs.lemmas.Bool.Decides.{nat_tests}
-use Rattle.sabr_model.specs.Devices.{Output, Takes, stall_faults}
+use Rattle.sabr_model.proofs.ListLemmas.Names.{◌≡◌, ◌≢◌, ℕ, ◌+◌, ◌-◌, ◌<◌, List, [], ◌∷◌, take, drop, length, arith, sym, ◌∙◌, ap, length-drop, append-nil, refl, take-add, take-append-drop, take_all, nat_tests, Output, Takes, stall_faults}
 use Rattle.sabr_model.proofs.ListLemmas.WrittenTexts.{Takes-append, Takes-kept}
 use Rattle.sabr_model.proofs.devices.write_text.Goals as goal
 

@@ -1,5 +1,4 @@
-use Rattle.std.proofs.Common.{length, ◌-◌, ◌≡◌, ◌≤◌, take}
-use Rattle.sabr_model.specs.Devices.{Takes}
+use Rattle.sabr_model.proofs.ListLemmas.Names.{length, ◌-◌, ◌≡◌, ◌≤◌, take, Takes}
 use Rattle.sabr_model.proofs.devices.write_text.Given as goal
 
 abbrev pub invariant-loop-at : goal.invariant-loop-at

@@ -1,5 +1,4 @@
-use Rattle.std.proofs.Common.{◌≡◌, ◌∷◌, ◌++◌, [], Some, rules}
-use Rattle.sabr_model.specs.routes.Fault.{first_fault}
+use Rattle.sabr_model.proofs.ListLemmas.Names.{◌≡◌, ◌∷◌, ◌++◌, [], Some, rules, first_fault}
 use Rattle.sabr_model.proofs.RouteLemmas.Follows.{first_fault_behind, path_behind}
 use Rattle.sabr_model.proofs.following.follow_hop.Goals as goal
 

@@ -1,8 +1,4 @@
-use Rattle.std.proofs.Common.{◌≡◌, drop}
-use Rattle.std.specs.List.{list_any}
-use Rattle.sabr_model.specs.plan.Plan.{has}
-use Rattle.sabr_model.specs.routes.Route.{receivers}
-use Rattle.sabr_model.specs.routes.Following.{receives}
+use Rattle.sabr_model.proofs.ListLemmas.Names.{◌≡◌, drop, list_any, has, receivers, receives}
 use Rattle.sabr_model.proofs.following.is_received.Given as goal
 
 abbrev pub invariant-loop-number : goal.invariant-loop-number

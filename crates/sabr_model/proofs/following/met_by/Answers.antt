@@ -1,6 +1,4 @@
-use Rattle.std.proofs.Common.{◌≡◌, ◌+◌, ◌++◌, ◌∷◌, [], take, get_or, sym, subst}
-use Rattle.std.proofs.lemmas.List.{take_more}
-use Rattle.sabr_model.specs.routes.Following.{AreMet}
+use Rattle.sabr_model.proofs.ListLemmas.Names.{◌≡◌, ◌+◌, ◌++◌, ◌∷◌, [], take, get_or, sym, subst, take_more, AreMet}
 use Rattle.sabr_model.proofs.RouteLemmas.Follows.{met_more, met_still}
 use Rattle.sabr_model.proofs.following.met_by.Goals as goal
 use Rattle.sabr_model.proofs.following.met_by.Goals.{in-Some, in_default}

@@ -1,5 +1,4 @@
-use Rattle.std.proofs.Common.{take}
-use Rattle.sabr_model.specs.routes.Following.{AreMet}
+use Rattle.sabr_model.proofs.ListLemmas.Names.{take, AreMet}
 use Rattle.sabr_model.proofs.following.met_by.Given as goal
 
 abbrev pub invariant-loop-number : goal.invariant-loop-number

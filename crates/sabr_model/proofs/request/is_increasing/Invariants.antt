@@ -1,5 +1,4 @@
-use Rattle.std.proofs.Common.{◌≡◌, drop}
-use Rattle.sabr_model.specs.plan.Plan.{rises_above}
+use Rattle.sabr_model.proofs.ListLemmas.Names.{◌≡◌, drop, rises_above}
 use Rattle.sabr_model.proofs.request.is_increasing.Given as goal
 
 abbrev pub invariant-loop-number : goal.invariant-loop-number

@@ -1,5 +1,4 @@
-use Rattle.std.proofs.Common.{◌≡◌, ℕ, IfSome, Some, None, false, [], ap, sym}
-use Rattle.sabr_model.specs.routes.Following.{AreMet, has_index}
+use Rattle.sabr_model.proofs.ListLemmas.Names.{◌≡◌, ℕ, IfSome, Some, None, false, [], ap, sym, AreMet, has_index}
 use Rattle.sabr_model.proofs.RouteLemmas.Prefixes.{empty_is_path}
 use Rattle.sabr_model.proofs.following.FollowedPath.at_source.Goals as goal
 

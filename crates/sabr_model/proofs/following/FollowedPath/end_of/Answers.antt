@@ -1,7 +1,4 @@
-use Rattle.std.proofs.Common.{◌≡◌, ◌+◌, ◌++◌, ◌∷◌, [], ℕ, List, Some, take, get_or, sym, subst, ◌∙◌, arith, rules}
-use Rattle.std.proofs.lemmas.List.{take_all, take_more}
-use Rattle.sabr_model.specs.routes.Fault.{fault_of}
-use Rattle.sabr_model.specs.routes.Following.{IsFollowedPath}
+use Rattle.sabr_model.proofs.ListLemmas.Names.{◌≡◌, ◌+◌, ◌++◌, ◌∷◌, [], ℕ, List, Some, take, get_or, sym, subst, ◌∙◌, arith, rules, take_all, take_more, fault_of, IsFollowedPath}
 use Rattle.sabr_model.proofs.RouteLemmas.Follows.{ends_elsewhere, ends_there, fault_on}
 use Rattle.sabr_model.proofs.following.FollowedPath.end_of.Goals as goal
 

@@ -1,5 +1,4 @@
-use Rattle.std.proofs.Common.{◌≡◌, ◌++◌, ◌∷◌, [], IfSome, Option, Some, None, refl, sym, subst}
-use Rattle.sabr_model.specs.routes.Following.{AreMet, IsFollowedPath}
+use Rattle.sabr_model.proofs.ListLemmas.Names.{◌≡◌, ◌++◌, ◌∷◌, [], IfSome, Option, Some, None, refl, sym, subst, AreMet, IsFollowedPath}
 use Rattle.sabr_model.proofs.RouteLemmas.Follows.{met_more, path_goes_on}
 use Rattle.sabr_model.proofs.following.FollowedPath.go_on.Goals as goal
 use Rattle.sabr_model.proofs.following.FollowedPath.go_on.Goals.{in-Some, in_default}

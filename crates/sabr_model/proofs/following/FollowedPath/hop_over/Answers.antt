@@ -1,8 +1,4 @@
-use Rattle.std.proofs.Common.{◌≡◌, Some, rules, sym, subst, ◌∙◌}
-use Rattle.sabr_model.specs.declared.contact.Contact.{Contact}
-use Rattle.sabr_model.specs.plan.Plan.{contact_named}
-use Rattle.sabr_model.specs.plan.Tabled.{IsHopOf}
-use Rattle.sabr_model.specs.routes.Arrival.{arrival}
+use Rattle.sabr_model.proofs.ListLemmas.Names.{◌≡◌, Some, rules, sym, subst, ◌∙◌, Contact, contact_named, IsHopOf, arrival}
 use Rattle.sabr_model.proofs.RouteLemmas.Follows.{hop_arrives, hop_is_small, reached_on}
 use Rattle.sabr_model.proofs.following.FollowedPath.hop_over.Goals as goal
 

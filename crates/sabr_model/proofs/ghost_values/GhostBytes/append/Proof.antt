@@ -1,6 +1,5 @@
 -- The bytes stand after the others. No memory is touched.
-use Rattle.sabr_model.proofs.ListLemmas.CountWalks.{[], ◌∷◌, refl, proved, yes, ftrue, flft, named, vunit, ‵, ◌⊛◌, ◌$◌, ◌∵◌, !, qed, done, move, keep, split, join, fsplit, fsplit3, fjoin, feq_i, suffices, frame, group, enter, of_opd, unit_lit, returns, alloc_all, pass_all, free_all, look_at, sets, MutRef, mut_vals, mut_Tells, ShrSlice, shr_slice_vals, shr_slice_Tells, plain, nothing, opens, closes, Stays, walk_of, says, stay_ref, Goes-ref, stay_none_slice, Goes-none_slice, ends_at}
-use Rattle.std.proofs.Common.{◌++◌}
+use Rattle.sabr_model.proofs.ListLemmas.CountWalks.{[], ◌∷◌, refl, proved, yes, ftrue, flft, named, vunit, ‵, ◌⊛◌, ◌$◌, ◌∵◌, !, qed, done, move, keep, split, join, fsplit, fsplit3, fjoin, feq_i, suffices, frame, group, enter, of_opd, unit_lit, returns, alloc_all, pass_all, free_all, look_at, sets, MutRef, mut_vals, mut_Tells, ShrSlice, shr_slice_vals, shr_slice_Tells, plain, nothing, opens, closes, Stays, walk_of, says, stay_ref, Goes-ref, stay_none_slice, Goes-none_slice, ends_at, ◌++◌}
 use denote.Builtin.{u8}
 use Rattle.sabr_model.specs.contracts.ghost_values.GhostBytes.append as f
 use Rattle.sabr_model.proofs.ghost_values.GhostBytes.append.Statement.{statement}

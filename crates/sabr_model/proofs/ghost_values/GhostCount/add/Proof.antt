@@ -1,6 +1,5 @@
 -- The count grows by one. No memory is touched.
-use Rattle.sabr_model.proofs.ListLemmas.CountWalks.{[], ◌∷◌, refl, proved, ftrue, flft, named, vunit, ‵, ◌⊛◌, ◌$◌, ◌∵◌, !, qed, done, move, keep, split, join, fsplit, fsplit3, fjoin, feq_i, suffices, frame, group, enter, of_opd, unit_lit, returns, alloc_all, pass_all, free_all, look_at, sets, MutRef, mut_vals, mut_Tells, plain, nothing, opens, closes, Stays, walk_of, says, stay_ref, Goes-ref, ends_at}
-use Rattle.std.proofs.Common.{◌+◌}
+use Rattle.sabr_model.proofs.ListLemmas.CountWalks.{[], ◌∷◌, refl, proved, ftrue, flft, named, vunit, ‵, ◌⊛◌, ◌$◌, ◌∵◌, !, qed, done, move, keep, split, join, fsplit, fsplit3, fjoin, feq_i, suffices, frame, group, enter, of_opd, unit_lit, returns, alloc_all, pass_all, free_all, look_at, sets, MutRef, mut_vals, mut_Tells, plain, nothing, opens, closes, Stays, walk_of, says, stay_ref, Goes-ref, ends_at, ◌+◌}
 use Rattle.sabr_model.specs.contracts.ghost_values.GhostCount.add as f
 use Rattle.sabr_model.proofs.ghost_values.GhostCount.add.Statement.{statement}
 use Rattle.sabr_model.proofs.ghost_values.GhostCount.add.Code as code

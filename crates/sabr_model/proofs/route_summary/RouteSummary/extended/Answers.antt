@@ -1,6 +1,4 @@
-use Rattle.std.proofs.Common.{◌≡◌, min, Some, None, sym, ap, ◌∙◌}
-use Rattle.std.specs.Option.{option_copied}
-use Rattle.sabr_model.specs.plan.Plan.{contact_named}
+use Rattle.sabr_model.proofs.ListLemmas.Names.{◌≡◌, min, Some, None, sym, ap, ◌∙◌, option_copied, contact_named}
 use Rattle.sabr_model.specs.declared.route_summary.RouteSummary.{RouteSummary}
 use Rattle.sabr_model.proofs.RouteLemmas.Faults.{told_first, told_more, told_none}
 use Rattle.sabr_model.proofs.route_summary.RouteSummary.extended.Goals as goal
