@@ -26,13 +26,7 @@ parts_same : (nodes : List NodePart) (links more : List Link) (passes others : L
 parts_same [] links more passes others lie = refl
 parts_same (n ∷ ns) links more passes others lie =
     let h = All-head (LiesIn (length links) (length passes)) n ns lie in
-    let rest = parts_same ns links more passes others (All-tail (LiesIn (length links) (length passes)) n ns lie) in
-    let own_links = same_part links more n.first_link n.end_link h.links_rise h.links_end in
-    let own_passes = same_part passes others n.first_pass n.end_pass h.passes_rise h.passes_end in
-    let one : part_of (links ++ more) (passes ++ others) n ≡ part_of links passes n =
-    ap (λ (ls : List Link). record { links = ls; passes = take (n.end_pass - n.first_pass) (drop n.first_pass (passes ++ others)) }) own_links
-    ∙ ap (λ (ps : List Pass). record { links = take (n.end_link - n.first_link) (drop n.first_link links); passes = ps }) own_passes in
-    ap (λ (s : NodeLinks). s ∷ parts_of ns (links ++ more) (passes ++ others)) one ∙ ap (λ (ss : List NodeLinks). part_of links passes n ∷ ss) rest
+    rw (same_part links more n.first_link n.end_link h.links_rise h.links_end, same_part passes others n.first_pass n.end_pass h.passes_rise h.passes_end, parts_same ns links more passes others (All-tail (LiesIn (length links) (length passes)) n ns lie)) refl
 
 -- a part more
 pub part_more : (p : TabledPlan) (numbers : List ℕ) (nodes : List NodePart) (links new_links : List Link) (passes new_passes : List Pass) (n : NodePart) → AreParts nodes links passes → (h : IsPartMore p numbers links new_links passes new_passes n)
@@ -42,12 +36,9 @@ part_more p numbers nodes links new_links passes new_passes n lie h =
     let many_passes : length new_passes ≡ length passes + length h.own.passes = ap (λ (ps : List Pass). length ps) h.passes_are ∙ length-append passes h.own.passes in
     let old : parts_of nodes new_links new_passes ≡ parts_of nodes links passes =
     ap (λ (ls : List Link). parts_of nodes ls new_passes) h.links_are ∙ ap (parts_of nodes (links ++ h.own.links)) h.passes_are ∙ parts_same nodes links h.own.links passes h.own.passes lie in
-    let own : part_of new_links new_passes n ≡ h.own =
-    ap (λ (ls : List Link). record { links = ls; passes = take (n.end_pass - n.first_pass) (drop n.first_pass new_passes) }) (own_part links h.own.links new_links n.first_link n.end_link h.links_are h.first_link h.end_link)
-    ∙ ap (λ (ps : List Pass). record { links = h.own.links; passes = ps }) (own_part passes h.own.passes new_passes n.first_pass n.end_pass h.passes_are h.first_pass h.end_pass) in (
-      map-append (part_of new_links new_passes) nodes (n ∷ [])
-          ∙ ap (λ (ss : List NodeLinks). ss ++ part_of new_links new_passes n ∷ []) old
-          ∙ ap (λ (s : NodeLinks). parts_of nodes links passes ++ s ∷ []) own,
+    let own_links = own_part links h.own.links new_links n.first_link n.end_link h.links_are h.first_link h.end_link in
+    let own_passes = own_part passes h.own.passes new_passes n.first_pass n.end_pass h.passes_are h.first_pass h.end_pass in (
+      rw (map-append (part_of new_links new_passes) nodes (n ∷ []), old, own_links, own_passes) refl,
       All-push (LiesIn (length new_links) (length new_passes)) nodes n
           (All-weaker (LiesIn (length links) (length passes)) (LiesIn (length new_links) (length new_passes))
           (λ m l. record { links_rise = l.links_rise; links_end = omega (arith, l.links_end, many_links); passes_rise = l.passes_rise; passes_end = omega (arith, l.passes_end, many_passes) }) nodes lie)

@@ -17,8 +17,7 @@ ordered old made lent ready all first count all_are same first_is count_is moved
     let front : take first lent ≡ old = ap (take first) lent_is ∙ take_at old made first (sym first_is) in
     let part : take (length lent - first) (drop first lent) ≡ made = between_to_end lent first (length lent) (omega arith) ∙ ap (drop first) lent_is ∙ drop_at old made first (sym first_is) in
     let rest : drop (length lent - first) (drop first lent) ≡ [] = drop_all (length lent - first) (drop first lent) (omega (arith, length-drop first lent)) in
-    let whole : put_mid first (length lent - first) lent ready ≡ old ++ ready =
-    ap (λ (xs : List Pass). xs ++ (ready ++ drop (length lent - first) (drop first lent))) front ∙ ap (λ (xs : List Pass). old ++ (ready ++ xs)) rest ∙ ap (λ (xs : List Pass). old ++ xs) (append-nil ready) in
+    let whole : put_mid first (length lent - first) lent ready ≡ old ++ ready = rw (front, rest, append-nil ready) in
     let made_moved : IsPermutation (map contact_of made) (map contact_of ready) = subst (λ (xs : List Pass). IsPermutation (map contact_of xs) (map contact_of ready)) part moved in
     let many : length ready ≡ length made = (let as_many = length_permutation (map contact_of made) (map contact_of ready) made_moved in omega (arith, as_many, length-map made contact_of, length-map ready contact_of)) in (
       made_moved,

@@ -2,11 +2,11 @@ use Rattle.std.proofs.Common.{◌≡◌, ◌<◌, ◌-◌, [], ◌∷◌, ℕ, L
 use Rattle.std.specs.Prelude.{slice_get}
 use Rattle.std.proofs.lemmas.List.{length-map}
 use Rattle.std.proofs.lemmas.List.Elements.{All-take, All-drop}
-use Rattle.sabr_index.specs.Links.{links_in}
+use Rattle.std.proofs.lemmas.List.Sums.{sum_by_push}
+use Rattle.sabr_index.specs.Links.{NodeLinks, links_in}
 use Rattle.sabr_index.specs.Linking.{AreSent, AreLinked, number_at, numbers_at, part_of, parts_of}
 use Rattle.sabr_index.proofs.LinkLemmas.{linked_more}
 use Rattle.sabr_index.proofs.TableLemmas.{part_more}
-use Rattle.sabr_index.proofs.IncomingLemmas.{links_push}
 use Rattle.sabr_index.proofs.building.link_nodes.Goals as goal
 
 pub of-requires : goal.of-requires
@@ -42,7 +42,7 @@ loop-index-preserved g c =
     omega (
       arith,
       ap links_in more.0,
-      links_push parts added.own,
+      sum_by_push (λ (s : NodeLinks). length s.links) parts added.own,
       is.few,
       added.few,
       length-map c.of.result.now (λ q. number_at p.plan.contacts q),

@@ -1,10 +1,10 @@
 use Rattle.std.proofs.Common.{◌≡◌, ◌<◌, ◌-◌, ◌+◌, ◌++◌, ◌∷◌, [], ℕ, List, length, get_or, take, drop, refl, sym, ap, subst, ◌∙◌, arith, length-append, append_assoc, map, All}
 use Rattle.std.specs.Prelude.{IsPermutation}
 use borrow.Rule.Slice.PartMut.{put_mid}
-use Rattle.std.proofs.lemmas.List.{get_or_default, length-map, map-append, take-append-drop}
+use Rattle.std.proofs.lemmas.List.{get_or_default, length-map, map-append, take-map, drop-map}
 use Rattle.std.proofs.lemmas.List.Edits.{get_or-between, length-between}
 use Rattle.std.proofs.lemmas.List.Elements.{All-append, All-take, All-drop}
-use Rattle.std.proofs.lemmas.List.Sorted.{IsPermutation-append_left, IsPermutation-append_right, IsPermutation-trans, length_permutation}
+use Rattle.std.proofs.lemmas.List.Sorted.{IsPermutation-put_mid, IsPermutation-trans, length_permutation}
 use Rattle.std.proofs.lemmas.Slice.{between-put_mid}
 use Rattle.sabr_index.specs.declared.link.Link.{Link}
 use Rattle.sabr_index.specs.declared.link.Pass.{Pass}
@@ -16,13 +16,8 @@ use Rattle.sabr_index.proofs.building.link_rows.Goals as goal
 -- the contacts are the same when those of a part were moved
 part_moved : (xs row : List Pass) (first n : ℕ) → IsPermutation (map contact_of (take n (drop first xs))) (map contact_of row) → IsPermutation (map contact_of xs) (map contact_of (put_mid first n xs row))
 part_moved xs row first n moved =
-    let front = take first xs in
-    let rest = drop n (drop first xs) in
-    let split : (ys : List Pass) → map contact_of (front ++ (ys ++ rest)) ≡ map contact_of front ++ (map contact_of ys ++ map contact_of rest) = λ ys. map-append contact_of front (ys ++ rest) ∙ ap (λ (zs : List Pass). map contact_of front ++ zs) (map-append contact_of ys rest) in
-    let whole : xs ≡ front ++ (take n (drop first xs) ++ rest) = sym (ap (λ (zs : List Pass). front ++ zs) (take-append-drop n (drop first xs)) ∙ take-append-drop first xs) in
-    subst (λ (zs : List Pass). IsPermutation zs (map contact_of (put_mid first n xs row))) (sym (ap (map contact_of) whole ∙ split (take n (drop first xs))))
-    (subst (IsPermutation (map contact_of front ++ (map contact_of (take n (drop first xs)) ++ map contact_of rest))) (sym (split row))
-    (IsPermutation-append_right (map contact_of front) _ _ (IsPermutation-append_left (map contact_of rest) _ _ moved)))
+    rw (map-append contact_of (take first xs) (row ++ drop n (drop first xs)), map-append contact_of row (drop n (drop first xs)), ← take-map contact_of first xs, ← drop-map contact_of n (drop first xs), ← drop-map contact_of first xs)
+    (IsPermutation-put_mid first n (map contact_of xs) (map contact_of row) (rw (drop-map contact_of first xs, take-map contact_of n (drop first xs)) moved))
 
 pub loop-first-preserved : goal.loop-first-preserved
 loop-first-preserved g c =

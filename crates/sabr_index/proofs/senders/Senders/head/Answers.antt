@@ -1,12 +1,12 @@
-use Rattle.std.proofs.Common.{◌≡◌, ◌<◌, Option, Some, List, [], length, get_or, ap, subst, ◌∙◌, arith}
+use Rattle.std.proofs.Common.{◌≡◌, ◌<◌, Some, List, length, get_or, ap, subst, ◌∙◌, arith}
 use Rattle.std.specs.Prelude.{slice_get}
-use Rattle.std.specs.Option.{option_map, option_map_or}
+use Rattle.std.specs.Option.{option_map}
 use Rattle.std.proofs.lemmas.List.{length-map}
 use Rattle.std.proofs.lemmas.Option.{slice_get-map, slice_get-get_or}
-use Rattle.sabr_index.specs.declared.link.Link.{Link}
 use Rattle.sabr_index.specs.declared.senders.Incoming.{Incoming}
-use Rattle.sabr_index.specs.Links.{NodeLinks, SentLink, passes_over}
+use Rattle.sabr_index.specs.Links.{SentLink}
 use Rattle.sabr_index.specs.Incoming.{passes_named}
+use Rattle.sabr_index.proofs.SenderLemmas.{passes_are}
 use Rattle.sabr_index.proofs.senders.Senders.head.Goals as goal
 
 pub returns : goal.returns
@@ -20,8 +20,7 @@ returns g c =
     let e = get_or incoming place none in
     let at : slice_get incoming place ≡ Some e = slice_get-get_or incoming place none lt in
     let w = c.self.invariant place e at in
-    let passes : passes_named linked e ≡ passes_over w.0.passes w.1 =
-    ap (λ (o : Option NodeLinks). option_map_or (λ s. option_map_or (passes_over s.passes) (slice_get s.links e.place) []) o []) w.2 ∙ ap (λ (o : Option Link). option_map_or (passes_over w.0.passes) o []) w.3 in (
+    let passes = passes_are linked e w.0 w.1 w.2 w.3 in (
       passes_named linked e,
       subst (λ (ss : List SentLink). slice_get ss place ≡ Some (sent e)) c.self.view_is (slice_get-map sent incoming place ∙ ap (option_map sent) at),
       rw (passes, ← w.4) w.5.within,
