@@ -23,8 +23,6 @@ routes_are_listed p r good =
 
 -- The candidates are the lists of different numbers from 1 to n, each once.
 
--- ---- numbers in a row
-
 range_in : (k a n : ℕ) → IsIn k (range_with_len a n) → (a ≤ k) × (k < a + n)
 range_in k a zero h = absurd h
 range_in k a (suc n) h = ⊎_elim (λ e. (omega arith, omega arith)) (λ r. let m = range_in k (a + 1) n r in (omega (arith, m.0), omega (arith, m.1))) h
@@ -71,27 +69,19 @@ apart-candidates n =
     (λ j k s l r. sym (lists_facts numbers j s l).long ∙ (lists_facts numbers k s r).long)
     (range_with_len 0 (n + 1)) (apart-range 0 (n + 1))
 
--- ---- the candidates
-
-all_from_range : (n : ℕ) (s : List ℕ) → AllByRecursion (λ m. IsIn m (range_with_len 1 n)) s → AllByRecursion (λ m. (0 < m) × (m ≤ n)) s
-all_from_range n s all = all_weaker (λ m. IsIn m (range_with_len 1 n)) (λ m. (0 < m) × (m ≤ n)) (λ m i. let w = range_in m 1 n i in (omega (arith, w.0), omega (arith, w.1))) s all
-
-all_to_range : (n : ℕ) (s : List ℕ) → AllByRecursion (λ m. (0 < m) × (m ≤ n)) s → AllByRecursion (λ m. IsIn m (range_with_len 1 n)) s
-all_to_range n s all = all_weaker (λ m. (0 < m) × (m ≤ n)) (λ m. IsIn m (range_with_len 1 n)) (λ m w. in_range m 1 n (omega (arith, w.0)) (omega (arith, w.1))) s all
-
 candidate_facts : (n : ℕ) (s : List ℕ) → IsIn s (candidates n) → IsTrue (are_different s) × AllByRecursion (λ m. (0 < m) × (m ≤ n)) s
 unfolding candidates
 candidate_facts n s h =
     let m = flat_map_in (lists_of_length (range_with_len 1 n)) s (range_with_len 0 (n + 1)) h in
     let f = lists_facts (range_with_len 1 n) m.0 s m.2 in
-    (f.different, all_from_range n s f.taken)
+    (f.different, all_weaker (λ m. IsIn m (range_with_len 1 n)) (λ m. (0 < m) × (m ≤ n)) (λ m i. let w = range_in m 1 n i in (omega (arith, w.0), omega (arith, w.1))) s f.taken)
 
 pub candidates_are_listed : CandidatesAreListed
 candidates_are_listed n =
     record {
       members = λ s. (
         λ c. candidate_facts n s (in_from_Contains (candidates n) s c),
-        λ h. Contains-from_in (candidates n) s (is_candidate n s h.0 (all_to_range n s h.1)),
+        λ h. Contains-from_in (candidates n) s (is_candidate n s h.0 (all_weaker (λ m. (0 < m) × (m ≤ n)) (λ m. IsIn m (range_with_len 1 n)) (λ m w. in_range m 1 n (omega (arith, w.0)) (omega (arith, w.1))) s h.1)),
       );
       once = apart-none_twice same_numbers same_numbers_tell (candidates n) (apart-candidates n);
     }
