@@ -1,7 +1,8 @@
 -- Lists in which no element occurs twice.
-use Rattle.sabr_model.proofs.ListLemmas.Names.{◌≡◌, ℕ, Bool, true, not, List, [], ◌∷◌, ◌++◌, map, refl, sym, subst, inl, inr, ⊎_elim, filter, flat_map, list_any, is_eq, IsTotalOrder, tied_itself, slice_cmp-IsAntisymmetric, nat_cmp-IsAntisymmetric, Ordering, Less, Equal, Greater, and_from, or_cases, not_from_false, false_from_ne_true, cond_both, by_numbers, same_numbers, none_twice}
+use Rattle.sabr_model.proofs.ListLemmas.Names.{◌≡◌, ℕ, Bool, true, not, List, [], ◌∷◌, ◌++◌, map, refl, sym, subst, inl, inr, ⊎_elim, filter, flat_map, list_any, IsTotalOrder, tied_itself, slice_cmp-IsAntisymmetric, nat_cmp-IsAntisymmetric, Ordering, Less, Equal, and_from, or_cases, not_from_false, false_from_ne_true, cond_both, by_numbers, same_numbers, none_twice}
 use Rattle.std.specs.List.Sorted.{IsStrictlySortedBy}
 use Rattle.sabr_model.proofs.ListLemmas.Members.{IsIn, filter_in, flat_map_in, map_in, append_cases, all_in}
+use Rattle.std.specs.Cmp.{Equal-is}
 
 -- no element is among those after it
 abbrev pub AreApart : {X : Type 0} → List X → Type 0
@@ -55,9 +56,4 @@ module _ {X : Type 0} where
 
 -- lists with the same numbers are the same
 pub same_numbers_tell : (s t : List ℕ) → same_numbers s t ≡ true → s ≡ t
-same_numbers_tell s t h = slice_cmp-IsAntisymmetric nat_cmp-IsAntisymmetric s t (tie (by_numbers s t) h)
-  where
-    tie : (o : Ordering) → is_eq o ≡ true → o ≡ Equal
-    tie Less h = absurd cc
-    tie Equal h = refl
-    tie Greater h = absurd cc
+same_numbers_tell s t h = slice_cmp-IsAntisymmetric nat_cmp-IsAntisymmetric s t ((Equal-is (by_numbers s t)).0 h)

@@ -106,8 +106,6 @@ without_loops p r a t b d (n ∷ s) reaches allowed (c, l, sent, named, light, t
 
 -- The list leaves no way out.
 
--- ---- the first of the list
-
 -- the first number decides if it isn't the same
 first_decides : (a b : ℕ) (o : Ordering) → ordering_then (nat_cmp a b) o ≡ Less → a ≤ b
 first_decides a b o h = grind (arith, nat_tests)
@@ -119,8 +117,6 @@ first_delivers p r [] s sorted never = absurd never
 first_delivers p r (x ∷ ways) s sorted (inl same) = (x, refl, omega (arith, ap (delivery_of p r) same))
 first_delivers p r (x ∷ ways) s sorted (inr behind) =
     (x, refl, first_decides (delivery_of p r x) (delivery_of p r s) _ (all_in (λ z. by_key p r x z ≡ Less) ways sorted.0 s behind))
-
--- ---- journeys and routes
 
 -- a journey between two nodes has a contact
 some_hop : (p : ContactPlan) (a b : ℕ) (s : List ℕ) → a ≢ b → chain_end p a s ≡ Some b → 0 < length s

@@ -1,13 +1,11 @@
 -- A list without a fault is a route, and the reverse.
-use Rattle.sabr_model.proofs.ListLemmas.Names.{◌≡◌, ℕ, ◌+◌, max, Bool, true, false, cond, not, eqb, leb, List, [], ◌∷◌, ◌++◌, length, refl, sym, ap, subst, ◌∙◌, arith, append_assoc, min, true≢false, Option, Some, None, is_none, IsTrue, ◌==◌, option_map_or, option_and_then, eqb-true, eq-eqb, leb-true, le-leb, false_from_ne_true, not-false, Contact, HopFault, NoSuchContact, NotChained, NodeAgain, NoLight, TooLate, WrongEnd, AvoidedNode, TooManyHops, ContactPlan, contact_named, has, light_of, RouteRequest, arrival, arrival_after, chain_end, receivers, ends_at, is_path, is_route, contacts_of, until_of, entry_of, contact_fault, fault_at, fault_or, first_fault, fault_of, FaultsTellRoutes, append-nil, fold, cons_option, filter_map-append, summary_of}
+use Rattle.sabr_model.proofs.ListLemmas.Names.{◌≡◌, ℕ, ◌+◌, max, Bool, true, false, cond, not, eqb, leb, List, [], ◌∷◌, ◌++◌, length, refl, sym, ap, subst, ◌∙◌, arith, append_assoc, min, Option, Some, None, is_none, IsTrue, ◌==◌, option_map_or, option_and_then, eqb-true, eq-eqb, leb-true, le-leb, false_from_ne_true, not-false, Contact, HopFault, NoSuchContact, NotChained, NodeAgain, NoLight, TooLate, WrongEnd, AvoidedNode, TooManyHops, ContactPlan, contact_named, has, light_of, RouteRequest, arrival, arrival_after, chain_end, receivers, ends_at, is_path, is_route, contacts_of, until_of, entry_of, contact_fault, fault_at, fault_or, first_fault, fault_of, FaultsTellRoutes, append-nil, fold, cons_option, filter_map-append, summary_of, ne_eqb}
 use Rattle.sabr_model.proofs.ListLemmas.Answered.{unfailed}
 use Rattle.sabr_model.proofs.RouteLemmas.Waiting.{told_by}
 use Rattle.sabr_model.proofs.RouteLemmas.Routes.{route_facts, empty_route, end_named}
 use Rattle.sabr_model.proofs.RouteLemmas.Paths.{IsHop, value_of, path_facts, hop_facts, path_push, beginning_is_path, route_is_path, route_from_path}
 use Rattle.sabr_model.proofs.RouteLemmas.Prefixes.{empty_is_path}
 use Rattle.std.proofs.lemmas.List.Sums.{fold-append}
-
--- ---- one place
 
 neither : (o o' : Option HopFault) → fault_or o o' ≡ None → (o ≡ None) × (o' ≡ None)
 neither None o' e = (refl, e)
@@ -131,13 +129,9 @@ module _ (p : ContactPlan) (n : ℕ) where
       ∙ fold-append (λ m (d : Contact). min m d.end) 253370764799 (contacts_of p s) (contacts_of p (n ∷ []))
       ∙ ap (λ o. fold (λ m (d : Contact). min m d.end) (until_of p s) (cons_option o [])) named
 
-  entry_first : (s : List ℕ) (o : Option Contact) → contact_named p n ≡ o → (length s == 0) ≡ true → entry_of p (s ++ n ∷ []) ≡ option_map_or (λ (c : Contact). c.to) o 0
-  entry_first [] o named h = ap (λ o. option_map_or (λ (c : Contact). c.to) o 0) named
-  entry_first (x ∷ s) o named h = absurd (omega (arith, eqb-true (length (x ∷ s)) 0 h))
-
-  entry_kept : (s : List ℕ) → (length s == 0) ≡ false → entry_of p (s ++ n ∷ []) ≡ entry_of p s
-  entry_kept [] h = absurd (true≢false h)
-  entry_kept (x ∷ s) h = refl
+  entry_more : (s : List ℕ) (o : Option Contact) → contact_named p n ≡ o → entry_of p (s ++ n ∷ []) ≡ cond (length s == 0) (option_map_or (λ (c : Contact). c.to) o 0) (entry_of p s)
+  entry_more [] o named = ap (λ o. option_map_or (λ (c : Contact). c.to) o 0) named
+  entry_more (x ∷ s) o named = ap (λ b. cond b (option_map_or (λ (c : Contact). c.to) o 0) (entry_of p (x ∷ s))) (sym (ne_eqb (length (x ∷ s)) 0 (λ e. absurd (omega (arith, e)))))
 
   -- the number has no contact
   pub told_none : (s : List ℕ) → contact_named p n ≡ None → summary_of p s ≡ summary_of p (s ++ n ∷ [])
@@ -150,9 +144,6 @@ module _ (p : ContactPlan) (n : ℕ) where
       none [] = ap (λ o. option_map_or (λ (c : Contact). c.to) o 0) named
       none (x ∷ s) = refl
 
-  -- the number has a contact, and the list was empty
-  pub told_first : (s : List ℕ) (c : Contact) → contact_named p n ≡ Some c → (length s == 0) ≡ true → record { until = min (until_of p s) c.end; entry = c.to } ≡ summary_of p (s ++ n ∷ [])
-  told_first s c named h = λ i. record { until = sym (until_more s (Some c) named) i; entry = sym (entry_first s (Some c) named h) i }
-
-  pub told_more : (s : List ℕ) (c : Contact) → contact_named p n ≡ Some c → (length s == 0) ≡ false → record { until = min (until_of p s) c.end; entry = entry_of p s } ≡ summary_of p (s ++ n ∷ [])
-  told_more s c named h = λ i. record { until = sym (until_more s (Some c) named) i; entry = sym (entry_kept s h) i }
+  -- the number has a contact
+  pub told_some : (s : List ℕ) (c : Contact) → contact_named p n ≡ Some c → record { until = min (until_of p s) c.end; entry = cond (length s == 0) c.to (entry_of p s) } ≡ summary_of p (s ++ n ∷ [])
+  told_some s c named = λ i. record { until = sym (until_more s (Some c) named) i; entry = sym (entry_more s (Some c) named) i }

@@ -1,5 +1,5 @@
 -- Steps of following a list of contacts.
-use Rattle.sabr_model.proofs.ListLemmas.Names.{◌≡◌, ◌≢◌, ℕ, IfSome, ◌+◌, ◌*◌, ◌/◌, ◌%◌, ◌^◌, ◌<◌, ◌≤◌, Bool, false, true, cond, ◌||◌, eqb, List, [], ◌∷◌, ◌++◌, map, length, take, drop, get_or, replicate, slice_get, slice_index_or, slice_set, bit_and, bit_or, w64, zero, suc, inl, inr, refl, sym, ap, ◌∙◌, append_assoc, append-nil, take-append-drop, arith, add-one, drop-cons, IsTrue, list_any, cons_option, option_map_or, Some, None, mod-lt, cases_Bool, eq-eqb, eqb-true, false_from_ne_true, ne_eqb, or_right, get_or-set_same, get_or-set_other, list_any-append, Contact, HopFault, WrongEnd, ContactPlan, TabledPlan, IsPlan, IsWindow, contact_named, has, last_time, IsHopOf, IsTabled, RouteRequest, arrival, receivers, contacts_of, ends_at, is_path, is_route, fault_at, fault_or, first_fault, fault_of, AreMet, IsFollowedPath, IsReachedBy, receives}
+use Rattle.sabr_model.proofs.ListLemmas.Names.{◌≡◌, ◌≢◌, ℕ, IfSome, ◌+◌, ◌*◌, ◌/◌, ◌%◌, ◌^◌, ◌<◌, ◌≤◌, false, true, cond, ◌||◌, eqb, List, [], ◌∷◌, ◌++◌, map, length, take, drop, get_or, replicate, slice_get, slice_index_or, slice_set, bit_and, bit_or, w64, zero, suc, inl, inr, refl, sym, ap, ◌∙◌, append_assoc, append-nil, take-append-drop, arith, add-one, drop-cons, IsTrue, list_any, cons_option, option_map_or, Some, None, mod-lt, eq-eqb, ne_eqb, or_right, get_or-set_same, get_or-set_other, list_any-append, Contact, HopFault, WrongEnd, ContactPlan, TabledPlan, IsPlan, IsWindow, contact_named, has, last_time, IsHopOf, IsTabled, RouteRequest, arrival, receivers, contacts_of, ends_at, is_path, is_route, fault_at, fault_or, first_fault, fault_of, AreMet, IsFollowedPath, IsReachedBy, receives, cases_eq, length-append}
 use Rattle.std.specs.Int.{bit_at}
 use Rattle.std.proofs.lemmas.Nat.Bits.{bit_at-zero, bit_at_set_same, bit_at_set_other, shr_and_one}
 use Rattle.sabr_model.specs.declared.following.FollowedPath.{FollowedPath}
@@ -37,12 +37,10 @@ reached_on p r s n c here at named reached same arrives =
       at = arrival_after_push p r r.at s n c here.at at named reached.at arrives;
     }
 
--- one step of a search: the contact at i
-any_at : (test : ℕ → Bool) (s : List ℕ) (i : ℕ) → i < length s → list_any test (drop i s) ≡ (test (get_or s i 0) || list_any test (drop (i + 1) s))
-any_at test s i lt = rw (drop-cons s i 0, add-one) refl
-
 pub received_behind : (p : ContactPlan) (node : ℕ) (s : List ℕ) (i : ℕ) → i < length s → has node (receivers p s) ≡ list_any (receives p node) (drop i s) → receives p node (get_or s i 0) ≡ false → has node (receivers p s) ≡ list_any (receives p node) (drop (i + 1) s)
-received_behind p node s i lt e h = e ∙ any_at (receives p node) s i lt ∙ ap (λ b. b || list_any (receives p node) (drop (i + 1) s)) h
+received_behind p node s i lt e h =
+    let step : list_any (receives p node) (drop i s) ≡ (receives p node (get_or s i 0) || list_any (receives p node) (drop (i + 1) s)) = rw (drop-cons s i 0, add-one) refl in
+    e ∙ step ∙ ap (λ b. b || list_any (receives p node) (drop (i + 1) s)) h
 
 -- the first fault of two lists, one after the other
 first_fault-append : (p : ContactPlan) (r : RouteRequest) (q s t : List ℕ) → first_fault p r q (s ++ t) ≡ fault_or (first_fault p r q s) (first_fault p r (q ++ s) t)
@@ -54,16 +52,12 @@ first_fault-append p r q (n ∷ s) t =
     ]
 
 pub some_behind : (s : List ℕ) (n : ℕ) → 0 < length (s ++ n ∷ [])
-some_behind [] n = omega arith
-some_behind (m ∷ s) n = omega arith
+some_behind s n = omega (arith, length-append s (n ∷ []))
 
 -- the fault of a list that is not empty
 fault_of_some : (p : ContactPlan) (r : RouteRequest) (s : List ℕ) → 0 < length s → fault_of p r s ≡ fault_or (first_fault p r [] s) (cond (ends_at p r s) None (Some WrongEnd))
 fault_of_some p r [] some = absurd (omega arith)
 fault_of_some p r (n ∷ s) some = refl
-
-fault_on_the_way : (p : ContactPlan) (r : RouteRequest) (s : List ℕ) (f : HopFault) → 0 < length s → first_fault p r [] s ≡ Some f → fault_of p r s ≡ Some f
-fault_on_the_way p r s f some fault = fault_of_some p r s some ∙ ap (λ o. fault_or o (cond (ends_at p r s) None (Some WrongEnd))) fault
 
 -- a path to a node other than the destination has a wrong end
 pub ends_elsewhere : (p : ContactPlan) (r : RouteRequest) (s : List ℕ) (here : Reached) → 0 < length s → IsTrue (is_path p r s) → IsReachedBy p r s here → (here.node ≡ r.destination → ⊥) → fault_of p r s ≡ Some WrongEnd
@@ -112,14 +106,12 @@ met_more p front n k c old new tabled named there before this others j node at =
     ap (has node) (receivers-append p.plan front (n ∷ [])) ∙ list_any-append (eqb node) (receivers p.plan front) (receivers p.plan (n ∷ []))
     ∙ ap (λ ys. has node (receivers p.plan front) || has node ys) (receivers-cons p.plan n [] c named) in
     rw both
-    (elim (cases_Bool (eqb j k)) [
-      | inl same ↦
-          let e : j ≡ k = eqb-true j k same in
+    (elim (cases_eq j k) [
+      | inl e ↦
           let node_is : node ≡ c.to = (let q : Some node ≡ Some c.to = sym at ∙ ap (slice_get p.table) e ∙ there in cc (q)) in
           rw (e, this, eq-eqb node c.to node_is) (sym (or_right (has node (receivers p.plan front)) true refl))
-      | inr apart ↦
-          let other : j ≢ k = λ e. (let t : eqb j k ≡ true = eq-eqb j k e in let no : ⊥ = cc in no) in
-          let differs : eqb node c.to ≡ false = false_from_ne_true (eqb node c.to) (λ e. other (place_one p.table j k node tabled.once at (there ∙ ap Some (sym (eqb-true node c.to e))))) in
+      | inr other ↦
+          let differs : eqb node c.to ≡ false = ne_eqb node c.to (λ e. other (place_one p.table j k node tabled.once at (there ∙ ap Some (sym e)))) in
           rw (others j other, differs, before j node at) (elim (has node (receivers p.plan front)) as (λ b. b ≡ (b || false)) [ true ↦ refl | false ↦ refl ])
     ])
 
@@ -144,7 +136,8 @@ path_goes_on p r front n old new path good reached met = record {
 pub fault_on : (p : ContactPlan) (r : RouteRequest) (s : List ℕ) (i : ℕ) (f : HopFault) → i < length s → IsTrue (is_path p r (take i s)) → fault_at p r (take i s) (get_or s i 0) ≡ Some f → fault_of p r s ≡ Some f
 fault_on p r s i f lt path bad =
     let behind : drop i s ≡ get_or s i 0 ∷ drop (i + 1) s = rw (drop-cons s i 0, add-one) refl in
-    fault_on_the_way p r s f (omega (arith, lt)) (front_is_good p r s i path ∙ ap (first_fault p r (take i s)) behind ∙ ap (λ o. fault_or o (first_fault p r (take i s ++ get_or s i 0 ∷ []) (drop (i + 1) s))) bad)
+    fault_of_some p r s (omega (arith, lt))
+    ∙ ap (λ o. fault_or o (cond (ends_at p r s) None (Some WrongEnd))) (front_is_good p r s i path ∙ ap (first_fault p r (take i s)) behind ∙ ap (λ o. fault_or o (first_fault p r (take i s ++ get_or s i 0 ∷ []) (drop (i + 1) s))) bad)
 
 -- ---- sets of nodes as arrays of bits
 
@@ -177,12 +170,11 @@ unfolding has_index
 others_stay words k j less other =
     let b : k % 64 < 64 = mod-lt k (omega arith) in
     let new = bit_or (slice_index_or words (k / 64) 0) (1 * 2 ^ (k % 64) % 18446744073709551616) in
-    elim (cases_Bool (eqb (j / 64) (k / 64))) [
-      | inl same ↦
-          let row : j / 64 ≡ k / 64 = eqb-true (j / 64) (k / 64) same in
+    elim (cases_eq (j / 64) (k / 64)) [
+      | inl row ↦
           let column : j % 64 ≢ k % 64 = λ e. other (omega arith) in
           rw row
           (ap (λ w. eqb (bit_at w (j % 64)) 1) (get_or-set_same words (k / 64) new 0 less)
           ∙ ap (λ b. eqb b 1) (bit_at_set_other w64 (slice_index_or words (k / 64) 0) (k % 64) b (j % 64) column))
-      | inr apart ↦ ap (λ w. eqb (bit_at w (j % 64)) 1) (get_or-set_other words (k / 64) (j / 64) new 0 (λ e. let t : eqb (j / 64) (k / 64) ≡ true = eq-eqb (j / 64) (k / 64) e in let no : ⊥ = cc in no))
+      | inr apart ↦ ap (λ w. eqb (bit_at w (j % 64)) 1) (get_or-set_other words (k / 64) (j / 64) new 0 apart)
     ]

@@ -7,8 +7,6 @@ use Rattle.sabr_model.proofs.ListLemmas.Members.{IsIn, in_from_Contains, Contain
 use Rattle.sabr_model.proofs.RouteLemmas.Listed.{key_total, key_tells}
 use Rattle.sabr_model.proofs.RouteLemmas.RoutesListed.{routes_are_listed}
 
--- ---- the first that passes a test
-
 module _ {X : Type 0} (test : X → Bool) where
   find_none : (xs : List X) (t : X) → find test xs ≡ None → IsIn t xs → test t ≡ true → ⊥
   find_none [] t e i h = i
@@ -28,15 +26,11 @@ module _ {X : Type 0} (test : X → Bool) where
         | false ↦ λ w g. ⊎_elim (λ k. absurd (both_ways (test y) w (subst (λ z. test z ≡ true) k h))) (λ k. find_least cmp ys x t sorted.1 g k h) i
       ] refl e
 
--- ---- members of the list
-
 pub member_is_route : (p : ContactPlan) (r : RouteRequest) (s : List ℕ) → IsPlan p → IsIn s (routes p r) → IsTrue (is_route p r s)
 member_is_route p r s good i = ((routes_are_listed p r good).members s).0 (Contains-from_in (routes p r) s i)
 
 pub route_is_member : (p : ContactPlan) (r : RouteRequest) (s : List ℕ) → IsPlan p → IsTrue (is_route p r s) → IsIn s (routes p r)
 route_is_member p r s good h = in_from_Contains (routes p r) s (((routes_are_listed p r good).members s).1 h)
-
--- ---- the key
 
 -- records compare as keys do
 pub record_order : (p : ContactPlan) (r : RouteRequest) (s t : List ℕ) → by_record (record_of p r s) (record_of p r t) ≡ by_key p r s t

@@ -87,8 +87,6 @@ route_is_candidate p r s good h =
     let d = and_parts (not (has r.source (receivers p s))) (are_different (receivers p s)) h.different in
     is_candidate p.largest s (numbers_different p r.source s r.destination h.reaches d.1) (numbers_in_range p good r.source s r.destination h.reaches)
 
--- ---- the list
-
 pub key_total : (p : ContactPlan) (r : RouteRequest) → IsTotalOrder (by_key p r)
 key_total p r = on_texts (key_of p r)
 

@@ -5,8 +5,6 @@ pub use Rattle.sabr_model.proofs.RouteLemmas.Routes.{path_facts, path_from_facts
 use Rattle.sabr_model.proofs.RouteLemmas.Routes.{route_facts, route_from_facts}
 use Rattle.sabr_model.proofs.ListLemmas.Begins.{chain_end-append, receivers-append, receivers-cons, first_hop}
 
--- ---- routes and paths
-
 -- a route is a path that has a hop and ends at the destination
 pub route_is_path : (p : ContactPlan) (r : RouteRequest) (s : List ℕ) → IsTrue (is_route p r s) → IsTrue (is_path p r s)
 route_is_path p r s h =
@@ -18,14 +16,10 @@ route_from_path p r s h some reaches =
     let f = path_facts p r s h in
     route_from_facts p r s (record { some_hop = some; reaches = reaches; different = f.different; in_time = f.in_time; allowed = f.allowed; within = f.within })
 
--- ---- options that have a value
-
 -- an option that is not None has a value
 pub value_of : {X : Type 0} (o : Option X) → is_some o ≡ true → (x : X) × (o ≡ Some x)
 value_of None h = absurd cc
 value_of (Some x) h = (x, refl)
-
--- ---- joined lists
 
 pub arrival_after-append : (p : ContactPlan) (r : RouteRequest) (t : ℕ) (q s : List ℕ) → arrival_after p r t (q ++ s) ≡ option_and_then (λ u. arrival_after p r u s) (arrival_after p r t q)
 arrival_after-append p r t [] s = refl
@@ -43,8 +37,6 @@ before_then : {X Y : Type 0} (f : X → Option Y) (o : Option X) → is_some (op
 before_then f None h = h
 before_then f (Some x) h = refl
 
--- ---- a beginning of a path is a path
-
 pub beginning_is_path : (p : ContactPlan) (r : RouteRequest) (q s : List ℕ) → IsTrue (is_path p r (q ++ s)) → IsTrue (is_path p r q)
 beginning_is_path p r q s h =
     let f = path_facts p r (q ++ s) h in
@@ -58,8 +50,6 @@ beginning_is_path p r q s h =
       allowed = (and_parts (list_all (λ n. not (has n r.avoided)) (receivers p q)) (list_all (λ n. not (has n r.avoided)) (receivers p s)) allowed).0;
       within = let w = f.within in omega (arith, length-append q s);
     })
-
--- ---- one more hop
 
 -- a hop over contact n that continues the path q
 pub record IsHop (p : ContactPlan) (r : RouteRequest) (q : List ℕ) (n : ℕ) : Type 0 where
@@ -96,14 +86,6 @@ arrival_after_push p r t q n c u v named e arrives =
     ∙ ap (option_and_then (λ (d : Contact). option_and_then (λ w. Some w) (arrival p r u d))) named
     ∙ ap (option_and_then (λ w. Some w)) arrives
 
-all_parts : (test : ℕ → Bool) (xs : List ℕ) (x : ℕ) → list_all test (xs ++ x ∷ []) ≡ true → (list_all test xs ≡ true) × (test x ≡ true)
-all_parts test xs x h =
-    let both = and_parts (list_all test xs) (list_all test (x ∷ [])) (sym (list_all-append test xs (x ∷ [])) ∙ h) in
-    (both.0, (and_parts (test x) true both.1).0)
-
-all_push : (test : ℕ → Bool) (xs : List ℕ) (x : ℕ) → list_all test xs ≡ true → test x ≡ true → list_all test (xs ++ x ∷ []) ≡ true
-all_push test xs x all one = list_all-append test xs (x ∷ []) ∙ and_from (list_all test xs) (list_all test (x ∷ [])) all (and_from (test x) true one refl)
-
 pub hop_facts : (p : ContactPlan) (r : RouteRequest) (q : List ℕ) (n : ℕ) → IsTrue (is_path p r (q ++ n ∷ [])) → IsHop p r q n
 hop_facts p r q n h =
     let f = path_facts p r (q ++ n ∷ []) h in
@@ -116,6 +98,7 @@ hop_facts p r q n h =
     ap (λ o. is_some (option_and_then (λ w. arrival_after p r w (n ∷ [])) o)) (sym ready.1) ∙ ap is_some (sym (arrival_after-append p r r.at q (n ∷ []))) ∙ f.in_time in
     let arrived = value_of (arrival p r ready.0 hop.contact) (before_then (λ w. Some w) (arrival p r ready.0 hop.contact) (ap (λ o. is_some (option_and_then (λ (c : Contact). option_and_then (λ w. Some w) (arrival p r ready.0 c)) o)) (sym hop.named) ∙ late)) in
     let seen = receivers_push p q n hop.contact hop.named in
+    let passes : ℕ → Bool = λ m. not (has m r.avoided) in
     record {
       contact = hop.contact;
       named = hop.named;
@@ -125,7 +108,7 @@ hop_facts p r q n h =
       there_at = ready.1;
       arrived = arrived.0;
       arrives_at = arrived.1;
-      allowed = not-true (has hop.contact.to r.avoided) (all_parts (λ m. not (has m r.avoided)) (receivers p q) hop.contact.to (ap (list_all (λ m. not (has m r.avoided))) (sym seen) ∙ f.allowed)).1;
+      allowed = not-true (has hop.contact.to r.avoided) (and_parts (passes hop.contact.to) true (and_parts (list_all passes (receivers p q)) (list_all passes (hop.contact.to ∷ [])) (sym (list_all-append passes (receivers p q) (hop.contact.to ∷ [])) ∙ ap (list_all passes) (sym seen) ∙ f.allowed)).1).0;
       room = let w = f.within in omega (arith, length-append q (n ∷ []));
     }
 
@@ -133,10 +116,11 @@ pub path_push : (p : ContactPlan) (r : RouteRequest) (q : List ℕ) (n : ℕ) �
 path_push p r q n h hop =
     let f = path_facts p r q h in
     let seen = receivers_push p q n hop.contact hop.named in
+    let passes : ℕ → Bool = λ m. not (has m r.avoided) in
     path_from_facts p r (q ++ n ∷ []) (record {
       chained = ap is_some (chain_end_push p r.source q n hop.contact hop.named hop.sent);
       different = ap (λ w. are_different (r.source ∷ w)) seen ∙ different_push (r.source ∷ receivers p q) hop.contact.to f.different hop.fresh;
       in_time = ap is_some (arrival_after_push p r r.at q n hop.contact hop.ready hop.arrived hop.named hop.there_at hop.arrives_at);
-      allowed = ap (list_all (λ m. not (has m r.avoided))) seen ∙ all_push (λ m. not (has m r.avoided)) (receivers p q) hop.contact.to f.allowed (not_from_false (has hop.contact.to r.avoided) hop.allowed);
+      allowed = ap (list_all (λ m. not (has m r.avoided))) seen ∙ list_all-append passes (receivers p q) (hop.contact.to ∷ []) ∙ and_from (list_all passes (receivers p q)) (list_all passes (hop.contact.to ∷ [])) f.allowed (and_from (passes hop.contact.to) true (not_from_false (has hop.contact.to r.avoided) hop.allowed) refl);
       within = let w = hop.room in omega (arith, length-append q (n ∷ []));
     })

@@ -2,8 +2,6 @@
 use Rattle.sabr_model.proofs.ListLemmas.Names.{◌≡◌, ℕ, ◌+◌, ◌≤◌, ◌<◌, max, cond, ltb, List, [], ◌∷◌, refl, sym, ap, subst, ◌∙◌, arith, ltb-true, lt-ltb, cond-true, option_map, option_and_then, Option, Some, None, Contact, ContactPlan, contact_named, light_of, RouteRequest, arrival, arrival_after, cost, CanArrive, ArrivalIsMonotone}
 use Rattle.sabr_model.proofs.ListLemmas.Answered.{had_value, passed}
 
--- ---- from an arrival to the second at which the bundle is sent
-
 -- what an arrival tells
 pub told_by : (sent end margin u : ℕ) (o : Option ℕ) → cond (ltb sent end) (option_map (λ l. sent + cost margin l) o) None ≡ Some u
     → (l : ℕ) × (o ≡ Some l) × (sent < end) × (sent + cost margin l ≡ u)

@@ -1,4 +1,4 @@
-use Rattle.sabr_model.proofs.ListLemmas.Names.{◌≡◌, ◌≢◌, ℕ, ◌+◌, ◌-◌, ◌<◌, List, [], ◌∷◌, take, drop, length, arith, sym, ◌∙◌, ap, length-drop, append-nil, refl, take-add, take-append-drop, take_all, nat_tests, Output, Takes, stall_faults}
+use Rattle.sabr_model.proofs.ListLemmas.Names.{◌≡◌, ◌≢◌, ℕ, ◌+◌, ◌-◌, ◌<◌, List, [], ◌∷◌, take, drop, length, arith, sym, ◌∙◌, ap, length-drop, append-nil, refl, take-add, take-append-drop, take_all, nat_tests, stall_faults}
 use Rattle.sabr_model.proofs.ListLemmas.WrittenTexts.{Takes-append, Takes-kept}
 use Rattle.sabr_model.proofs.devices.write_text.Goals as goal
 
@@ -14,10 +14,6 @@ went n (x ∷ xs) h = grind (arith, nat_tests)
 stalls : (n : ℕ) (xs : List ℕ) → n ≡ 0 → 0 < length xs → stall_faults n xs ≡ 1
 stalls n [] e h = absurd (omega arith)
 stalls n (x ∷ xs) e h = rw e refl
-
--- no byte was taken after others
-stalled : (a b c : Output) (xs : List ℕ) → Takes a xs b → Takes b [] c → Takes a xs c
-stalled a b c xs p q = rw (append-nil xs) at (Takes-append a b c xs [] p q)
 
 pub loop-at-preserved : goal.loop-at-preserved
 loop-at-preserved g c =
@@ -45,7 +41,7 @@ returns-then-taken-eq0 g c =
       (
         take c.loop-at.at text,
         (drop c.loop-at.at text, sym (take-append-drop c.loop-at.at text)),
-        stalled (g.W.Write.output c.args.writer.now) (g.W.Write.output c.loop-at.writer) (g.W.Write.output c.write.new.self) _ c.loop-at.invariant.written (rw none at h.bytes),
+        rw append-nil at (Takes-append (g.W.Write.output c.args.writer.now) (g.W.Write.output c.loop-at.writer) (g.W.Write.output c.write.new.self) (take c.loop-at.at text) [] c.loop-at.invariant.written (rw none at h.bytes)),
       ),
       h.count ∙ ap (λ k. (g.W.Write.output c.loop-at.writer).failures + k) (stalls _ _ none (rw (rest text c.loop-at.at) (omega (arith, length-drop {A = ℕ}, c.loop-at-test.true)))) ∙ ap (λ k. k + 1) c.loop-at.invariant.fine,
     )
