@@ -9,9 +9,6 @@ use Rattle.sabr_index.proofs.LinkLemmas.{linked_more}
 use Rattle.sabr_index.proofs.TableLemmas.{part_more}
 use Rattle.sabr_index.proofs.building.link_nodes.Goals as goal
 
-pub of-requires : goal.of-requires
-of-requires g c = record { group = omega (arith, c.loop-index-test.true, c.nodes-count.ensures.table, c.requires.begins); spans = c.requires.spans }
-
 pub add_node-requires : goal.add_node-requires
 add_node-requires g c =
     let places = c.args.order.items.items in
