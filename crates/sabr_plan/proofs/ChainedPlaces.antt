@@ -1,12 +1,5 @@
 -- Chains of places by buckets: what one more leaves of them, and what a walk along one shows.
-use Rattle.std.proofs.Common.{◌≡◌, ℕ, ◌-◌, ◌<◌, ◌≤◌, Bool, true, false, List, [], ◌∷◌, ◌++◌, length, get_or, map, refl, sym, ap, subst, ◌∙◌, arith, length-append}
-use Rattle.std.specs.Prelude.{slice_get, Some}
-use Rattle.std.proofs.lemmas.Option.{slice_get-map, slice_get-get_or}
-use Rattle.std.specs.List.{list_any}
-use Rattle.std.proofs.lemmas.Bool.Decides.{nat_tests}
-use Rattle.std.proofs.lemmas.Bool.{false_from_ne_true}
-use Rattle.std.proofs.lemmas.List.{get_or_append_left, get_or-map, map-append}
-use Rattle.std.proofs.lemmas.List.Recursion.{or_from_places}
+use Rattle.sabr_plan.proofs.Names.{◌≡◌, ℕ, ◌-◌, ◌<◌, ◌≤◌, Bool, true, false, List, [], ◌∷◌, ◌++◌, length, get_or, map, refl, sym, ap, subst, ◌∙◌, arith, length-append, slice_get, Some, slice_get-map, slice_get-get_or, list_any, nat_tests, false_from_ne_true, get_or_append_left, get_or-map, map-append, or_from_places}
 use Rattle.sabr_plan.specs.Gathering.{IsLastOf, AreChained}
 
 -- the places before a bound alone matter

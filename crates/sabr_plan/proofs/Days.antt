@@ -1,8 +1,5 @@
 -- The days of the calendar, one after another, and their numbers.
-use Rattle.std.proofs.Common.{◌≡◌, ℕ, zero, suc, ◌+◌, ◌<◌, ◌≤◌, inl, inr, sym, ap, ◌∙◌, arith, rules, pos, ◌-◌, ◌+ℤ◌, ◌≢◌, subst, w16, w8, to_z, of_z}
-use Rattle.std.specs.Prelude.{Option, Some, None, IfSome, IsNone, SomeIff}
-use Rattle.std.proofs.lemmas.Bool.{cases_lt}
-use borrow.Author.Tests.{lt-ltb, le-ltb}
+use Rattle.sabr_plan.proofs.Names.{◌≡◌, ℕ, zero, suc, ◌+◌, ◌<◌, ◌≤◌, inl, inr, sym, ap, ◌∙◌, arith, rules, pos, ◌-◌, ◌+ℤ◌, ◌≢◌, subst, w16, w8, to_z, of_z, Option, Some, None, IfSome, IsNone, SomeIff, cases_lt, lt-ltb, le-ltb}
 use Rattle.jiff_core.specs.declared.civil.date.Date.{Date}
 use Rattle.jiff_core.specs.Calendar.{days_from_civil, days_in_month, IsCivilDate, IsDate}
 use Rattle.jiff_core.specs.Date.{epoch_day}
@@ -20,11 +17,10 @@ pub record IsDay (n : ℕ) (d : CalendarDay) : Type 0 where
 
 within_month : (n : ℕ) (d : CalendarDay) → IsDay n d → d.day < days_in_month (pos d.year) d.month → IsDay (suc n) (record { year = d.year; month = d.month; day = d.day + 1 })
 within_month n d is h =
-    let low = is.civil.2.0 in
     record {
       since = is.since;
       civil = (is.civil.0, is.civil.1, (omega arith, omega arith));
-      number = omega (arith, signed_arith, is.number, days_from_civil-day (pos d.year) d.month d.day (d.day + 1) low (omega arith));
+      number = omega (arith, signed_arith, is.number, days_from_civil-day (pos d.year) d.month d.day (d.day + 1) is.civil.2.0 (omega arith));
     }
 
 next_month : (n : ℕ) (d : CalendarDay) → IsDay n d → days_in_month (pos d.year) d.month ≤ d.day → d.month < 12 → IsDay (suc n) (record { year = d.year; month = d.month + 1; day = 1 })
@@ -36,17 +32,13 @@ next_month n d is last h =
       number = omega (arith, signed_arith, is.number, days_from_civil-next_month (pos d.year) d.month d.day is.civil.1.0 full);
     }
 
--- 31 December of the year 9999 has the largest number
-not_last : (n : ℕ) → n < 2932896 → days_from_civil (pos 9999) 12 31 ≡ pos n → ⊥
-not_last n h e = omega (arith, signed_arith, e, days_from_civil-max)
-
 next_year : (n : ℕ) (d : CalendarDay) → n < 2932896 → IsDay n d → days_in_month (pos d.year) d.month ≤ d.day → 12 ≤ d.month → IsDay (suc n) (record { year = d.year + 1; month = 1; day = 1 })
 next_year n d early is last h =
     let month : d.month ≡ 12 = omega (arith, is.civil.1.1) in
     let full : days_in_month (pos d.year) d.month ≡ 31 = ap (days_in_month (pos d.year)) month in
     let day : d.day ≡ 31 = omega (arith, is.civil.2.1) in
     let eve : days_from_civil (pos d.year) 12 31 ≡ pos n = rw (month, day) at is.number in
-    let apart : ¬ (d.year ≡ 9999) = λ e. not_last n early (rw e at eve) in
+    let apart : ¬ (d.year ≡ 9999) = λ e. let last = rw e at eve in omega (arith, signed_arith, last, days_from_civil-max) in
     let year : d.year < 9999 = omega (arith, signed_arith, is.civil.0) in
     record {
       since = omega (arith, is.since);
@@ -86,30 +78,20 @@ same_day n date h e =
 
 module _ (year month day : ℕ) (y : year < 10000) (m : month < 100) (d : day < 100) where
   -- the numbers as jiff sees them
-  year_is : to_z w16 year ≡ pos year
-  year_is = to_z_pos w16 year (omega arith)
-
-  month_is : to_z w8 month ≡ pos month
-  month_is = to_z_pos w8 month (omega arith)
-
-  day_is : to_z w8 day ≡ pos day
-  day_is = to_z_pos w8 day (omega arith)
+  seen : (to_z w16 year ≡ pos year) × (to_z w8 month ≡ pos month) × (to_z w8 day ≡ pos day)
+  seen = (to_z_pos w16 year (omega arith), to_z_pos w8 month (omega arith), to_z_pos w8 day (omega arith))
 
   -- a day of the calendar is a date
   pub is_date : (n : ℕ) → n ≤ 2932896 → day_after_epoch n ≡ record { year = year; month = month; day = day } → IsDate (to_z w16 year) (to_z w8 month) (to_z w8 day)
   is_date n h e =
       let civil = (subst (IsDay n) e (day_after_epoch_is n h)).civil in
-      rw (year_is, month_is, day_is) (civil.0, (omega (arith, signed_arith, civil.1), omega (arith, signed_arith, civil.1)), (omega (arith, signed_arith, civil.2), omega (arith, signed_arith, civil.2)))
+      rw (seen.0, seen.1, seen.2) (civil.0, (omega (arith, signed_arith, civil.1), omega (arith, signed_arith, civil.1)), (omega (arith, signed_arith, civil.2), omega (arith, signed_arith, civil.2)))
 
   module _ (date : Date) (a : date.year ≡ to_z w16 year) (b : pos date.month ≡ to_z w8 month) (c : pos date.day ≡ to_z w8 day) where
     date_is : (date.year ≡ pos year) × (date.month ≡ month) × (date.day ≡ day)
-    date_is = (a ∙ year_is, let k : pos date.month ≡ pos month = b ∙ month_is in cc, let k : pos date.day ≡ pos day = c ∙ day_is in cc)
+    date_is = (a ∙ seen.0, let k : pos date.month ≡ pos month = b ∙ seen.1 in cc, let k : pos date.day ≡ pos day = c ∙ seen.2 in cc)
 
-    -- its number is the day's
-    number_is : (n : ℕ) → n ≤ 2932896 → day_after_epoch n ≡ record { year = year; month = month; day = day } → epoch_day date ≡ pos n
-    number_is n h e = rw (date_is.0, date_is.1, date_is.2) (subst (IsDay n) e (day_after_epoch_is n h)).number
-
-    -- and the day of its number is that day
+    -- the day of its number is that day
     pub day_is_of : (n : ℕ) → n ≤ 2932896 → epoch_day date ≡ pos n → day_after_epoch n ≡ record { year = year; month = month; day = day }
     day_is_of n h e =
         let same = same_day n date h e in
@@ -119,7 +101,7 @@ module _ (year month day : ℕ) (y : year < 10000) (m : month < 100) (d : day < 
     -- from its days since the calendar's first, the day's number, if there is one
     pub numbered : (since : ℕ) → (epoch_day date +ℤ pos 4371587) ≡ pos since → since ≤ 7304483 → (o : Option ℕ) → SomeIff o (4371587 ≤ since) (since - 4371587)
         → IfSome o (λ n. (n ≤ 2932896) × (day_after_epoch n ≡ record { year = year; month = month; day = day })) × (IsNone o → (n : ℕ) → n ≤ 2932896 → day_after_epoch n ≢ record { year = year; month = month; day = day })
-    numbered since is high None early = (tt, λ none n h e. let number = number_is n h e in early (omega (arith, signed_arith)))
+    numbered since is high None early = (tt, λ none n h e. let number : epoch_day date ≡ pos n = rw (date_is.0, date_is.1, date_is.2) (subst (IsDay n) e (day_after_epoch_is n h)).number in early (omega (arith, signed_arith)))
     numbered since is high (Some n) (late, number) =
         let small : n ≤ 2932896 = omega arith in
         ((small, day_is_of n small (omega (arith, signed_arith))), λ none. absurd cc)

@@ -1,31 +1,10 @@
 -- What no two gathered contacts share, as the chains beside them have it.
-use Rattle.std.proofs.Common.{◌≡◌, ℕ, zero, suc, ◌<◌, Bool, true, false, ◌&&◌, not, List, [], ◌∷◌, ◌++◌, filter, length, get_or, set, refl, sym, ap, ◌∙◌, arith}
+use Rattle.sabr_plan.proofs.Names.{◌≡◌, ℕ, zero, suc, ◌<◌, Bool, true, false, ◌&&◌, not, List, [], ◌∷◌, ◌++◌, filter, length, get_or, set, refl, sym, ap, ◌∙◌, arith, slice_get, option_map, is_some, list_any, find, position, Contact, Opening, and_parts, both_ways, get_or_default, slice_get-get_or, list_any_at, or_from_places, fails_before_first, Option, Some, None, opens, same_opening, none_twice, contact_refusal, by_key, is_le, is_gt, le_itself, all_push, opens_parts, find_none, nat_tests}
 use Rattle.sabr_model.proofs.ListLemmas.Ordered.{all_weaker}
-use Rattle.std.specs.Prelude.{slice_get, option_map, is_some}
-use Rattle.std.specs.List.{list_any, find, position}
-use Rattle.sabr_model.specs.declared.contact.Contact.{Contact}
-use Rattle.sabr_model.specs.declared.opening.Opening.{Opening}
-use Rattle.std.proofs.lemmas.Bool.{and_parts, both_ways}
-use Rattle.std.proofs.lemmas.List.{get_or_default}
-use Rattle.std.proofs.lemmas.Option.{slice_get-get_or}
-use Rattle.std.proofs.lemmas.List.Folds.{list_any_at}
 use Rattle.std.proofs.lemmas.List.Quantifiers.{position-Some}
-use Rattle.std.proofs.lemmas.List.Recursion.{or_from_places}
-use Rattle.std.proofs.lemmas.List.Sums.{fails_before_first}
 use Rattle.std.proofs.lemmas.List.Elements.{filter-append}
-use Rattle.std.specs.declared.option.Option.{Option}
-use Rattle.std.specs.declared.option.Option.TheVariants.{Some, None}
-use Rattle.sabr_model.specs.plan.Plan.{opens, same_opening, none_twice}
-use Rattle.sabr_model.specs.plan.Adding.{contact_refusal}
 use Rattle.sabr_model.specs.plan.Openings.{opening_of}
-use Rattle.sabr_model.specs.Order.{by_key}
-use Rattle.std.specs.Ordering.{is_le, is_gt}
-use Rattle.sabr_model.proofs.PlanLemmas.KeyOrder.{le_itself}
 use Rattle.sabr_plan.specs.Gathering.{plan_of_contacts, stands, standing, stands_at, IsFound, opening_key, contact_bucket, OpenBy, KnowsSome}
-use Rattle.sabr_model.proofs.PlanLemmas.ContactLemmas.{all_push}
-use Rattle.sabr_model.proofs.PlanLemmas.Deletions.{opens_parts}
-use Rattle.sabr_model.proofs.PlanLemmas.RangeOrder.{find_none}
-use Rattle.std.proofs.lemmas.Bool.Decides.{nat_tests}
 use Rattle.sabr_plan.proofs.ChainedPlaces.{chained_push}
 
 -- ---- contacts that open by a last opening
@@ -99,10 +78,6 @@ all_stay : (p : Contact → Bool) (cs : List Contact) → list_any p cs ≡ fals
 all_stay p [] fails = refl
 all_stay p (c ∷ cs) fails = grind (arith, nat_tests, all_stay p cs)
 
--- and none is found
-nothing : (p : Contact → Bool) (cs : List Contact) → list_any p cs ≡ false → find p cs ≡ None
-nothing p cs fails = find_none p cs (λ k d lt passes. both_ways (list_any p cs) fails (list_any_at p cs k d lt passes))
-
 -- an element that is found passes for some
 any_found : (p : Contact → Bool) (cs : List Contact) (c : Contact) → find p cs ≡ Some c → list_any p cs ≡ true
 any_found p [] c is = absurd cc
@@ -143,7 +118,7 @@ module _ (o : Opening) where
 
   -- without one none is found
   pub none_found : (cs : List Contact) → list_any (stands_at o) cs ≡ false → find p (standing cs) ≡ None
-  none_found cs h = nothing p (standing cs) (sym (any_standing p cs) ∙ h)
+  none_found cs h = find_none p (standing cs) (λ k d lt passes. both_ways (list_any p (standing cs)) (sym (any_standing p cs) ∙ h) (list_any_at p (standing cs) k d lt passes))
 
 -- no opening changes
 pub open_by_set : (last : Opening) (cs : List Contact) (k e : ℕ) → OpenBy last cs → OpenBy last (set cs k (ended (get_or cs k no_contact) e))

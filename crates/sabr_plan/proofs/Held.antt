@@ -1,10 +1,5 @@
 -- Reading a text piece by piece: the bytes of a line that are held, and where a line ends.
-use Rattle.std.proofs.Common.{◌≡◌, ℕ, ◌+◌, ◌*◌, ◌-◌, ◌<◌, ◌≤◌, true, Result, Ok, Err, ◌⊎◌, not, eqb, List, [], ◌++◌, length, take, get_or, refl, sym, ap, ◌∙◌, arith, length-take, get_or-take, ◌≢◌, inl, inr, Bool, ◌∷◌, append_assoc, OnOk, IfErr, length-append, subst}
-use Rattle.std.proofs.lemmas.Bool.Decides.{nat_tests}
-use Rattle.std.proofs.lemmas.Grind.{get_or_default_zero}
-use Rattle.std.proofs.lemmas.List.Sums.{list_all-from_AllPass}
-use Rattle.std.proofs.lemmas.List.Folds.{list_all-append}
-use borrow.Author.Tests.{le-ltb}
+use Rattle.sabr_plan.proofs.Names.{◌≡◌, ℕ, ◌+◌, ◌*◌, ◌-◌, ◌<◌, ◌≤◌, true, Result, Ok, Err, ◌⊎◌, not, eqb, List, [], ◌++◌, length, take, get_or, refl, sym, ap, ◌∙◌, arith, length-take, get_or-take, ◌≢◌, inl, inr, Bool, ◌∷◌, append_assoc, OnOk, IfErr, length-append, subst, nat_tests, get_or_default_zero, list_all-from_AllPass, list_all-append, le-ltb, TabledPlan, Input, Gives}
 use Rattle.sabr_plan.specs.declared.fault.PlanKind.{PlanKind}
 use Rattle.sabr_plan.specs.Words.{is_one_line}
 use Rattle.sabr_plan.specs.Feeding.{Fed, EndsLine, outcome, IsFed, weight, nothing_fed, Answers}
@@ -12,8 +7,6 @@ use Rattle.sabr_plan.specs.Reading.{Reading, Leaves, most_line_bytes, most_lines
 use Rattle.sabr_plan.specs.declared.fault.PlanFault.{PlanFault}
 use Rattle.sabr_plan.specs.Steps.{and_then}
 use Rattle.sabr_plan.proofs.Outcomes.{outcome-line, outcome-held, outcome-refused, plan_of-outcome}
-use Rattle.sabr_model.specs.plan.Plan.{TabledPlan}
-use Rattle.sabr_model.specs.Devices.{Input, Gives}
 use Rattle.sabr_plan.specs.TextReading.{AreRefused, ContinuesAs}
 use Rattle.sabr_plan.specs.PlanRead.{IsNoMemory, IsRead, ReadsPlan}
 use Rattle.sabr_plan.proofs.TextReading as reading
@@ -113,11 +106,7 @@ piece_refused feed new piece f was gives fine refused =
 
 -- `Read` comes only if the reader failed
 pub read_failed : (old : Input) (answer : Result TabledPlan PlanFault) (new : Input) → ReadsPlan old answer new → IfErr answer (λ f. f.kind ≡ kind.Read → new.failures ≡ old.failures + 1)
-read_failed old answer new reads = reading.read_failed plan_of Answers IsRead IsNoMemory old new answer (λ f memory is. cc) text_not reads
-  where
-    text_not : (given : List ℕ) (f : PlanFault) → Answers (plan_of given true) (Err f) → f.kind ≡ kind.Read → ⊥
-    text_not given f (inl memory) is = cc
-    text_not given f (inr refused) is = ended_not_read given f refused is
+read_failed old answer new reads = reading.read_failed plan_of Answers IsRead IsNoMemory old new answer (λ f memory is. cc) (λ given f h is. elim h [ inl memory ↦ cc | inr refused ↦ ended_not_read given f refused is ]) reads
 
 -- a text that is one piece was read
 pub all_was_read : (feed next : Fed) (text : List ℕ) (answer : Result TabledPlan PlanFault) → feed ≡ nothing_fed → ContinuesAs (outcome feed) text (outcome next) → Answers (outcome next [] true) answer → Answers (plan_of text true) answer

@@ -1,3 +1,4 @@
+pub mod Names
 pub mod ChainedPlaces
 pub mod SortedRanges
 pub mod RangeTrees

@@ -1,11 +1,6 @@
 -- The lines of a text that is given in parts, and its outcome.
-use Rattle.std.proofs.Common.{◌≡◌, ℕ, suc, ◌<◌, true, false, not, eqb, List, [], ◌∷◌, ◌++◌, ◌+◌, ◌-◌, length, get_or, refl, sym, ap, ◌∙◌, arith, append-nil, length-append, ◌≢◌, Bool, append_assoc, Result, Ok, Err}
-use Rattle.std.proofs.lemmas.Bool.{and_parts}
-use Rattle.std.proofs.lemmas.List.{get_or-append-add}
-use borrow.Author.Tests.{not-true}
+use Rattle.sabr_plan.proofs.Names.{◌≡◌, ℕ, suc, ◌<◌, true, false, not, eqb, List, [], ◌∷◌, ◌++◌, ◌+◌, ◌-◌, length, get_or, refl, sym, ap, ◌∙◌, arith, append-nil, length-append, ◌≢◌, Bool, append_assoc, Result, Ok, Err, and_parts, get_or-append-add, not-true, nat_tests, list_all-append}
 use Rattle.sabr_plan.specs.Words.{TextLines, is_one_line, before_lines, lines_of, has_bytes}
-use Rattle.std.proofs.lemmas.Bool.Decides.{nat_tests}
-use Rattle.std.proofs.lemmas.List.Folds.{list_all-append}
 use Rattle.sabr_plan.specs.Steps.{and_then}
 use Rattle.sabr_plan.specs.Reading.{Reading, nothing_read, limited, read_line, read_lines, broken_line, last_line, plan_of}
 use Rattle.sabr_plan.specs.Feeding.{Fed, nothing_fed, outcome}

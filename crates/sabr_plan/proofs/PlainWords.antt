@@ -1,16 +1,8 @@
 -- The words of a line, and graphic words, each after blanks.
-use Rattle.std.proofs.Common.{◌≡◌, ℕ, ◌<◌, true, false, List, [], ◌∷◌, ◌++◌, length, take, drop, get_or, refl, sym, ap, ◌∙◌, arith, add-zero, append-nil, Bool, eqb, append_assoc, get_or-take, get_or-drop, length-append, length-take, length-drop, not}
-use Rattle.std.specs.Prelude.{Option, Some, None, unwrap_or}
-use Rattle.std.specs.List.{All, list_all, position, position_or_len}
+use Rattle.sabr_plan.proofs.Names.{◌≡◌, ℕ, ◌<◌, true, false, List, [], ◌∷◌, ◌++◌, length, take, drop, get_or, refl, sym, ap, ◌∙◌, arith, add-zero, append-nil, Bool, eqb, append_assoc, get_or-take, get_or-drop, length-append, length-take, length-drop, not, Option, Some, None, unwrap_or, All, list_all, position, position_or_len, lt-ltb, ltb-true, and_parts, not-false, not-true, nat_tests, list_all-append, drop_all, take-append-drop, AllPass-from_list_all, list_all-from_AllPass, fails_before_first, passes_at_first, prefix_len-le-length}
 use Rattle.std.proofs.lemmas.List.Splits.{slice_split-cons_yes, slice_split_none, slice_split_at}
-use borrow.Author.Tests.{lt-ltb, ltb-true}
 use Rattle.sabr_plan.specs.Words.{is_blank, words_of, is_plain, is_comment, has_bytes, is_one_line}
-use Rattle.std.proofs.lemmas.Bool.{and_parts, not-false, not-true}
-use Rattle.std.proofs.lemmas.Bool.Decides.{nat_tests}
-use Rattle.std.proofs.lemmas.List.Folds.{list_all-append}
-use Rattle.std.proofs.lemmas.List.{drop_all, take-append-drop}
 use Rattle.std.proofs.lemmas.List.Quantifiers.{position-Some}
-use Rattle.std.proofs.lemmas.List.Sums.{AllPass-from_list_all, list_all-from_AllPass, fails_before_first, passes_at_first, prefix_len-le-length}
 use Rattle.sabr_plan.specs.Digits.{is_digit}
 use Rattle.sabr_plan.specs.PlainWords.{is_graphic, is_graphic_word, IsAfterBlanks, IsFront, IsAhead}
 
@@ -49,10 +41,7 @@ all_weaker p q w weaker h = list_all-from_AllPass q w (λ k d within. weaker (ge
 
 -- a graphic byte is no blank
 no_blanks : (w : List ℕ) → list_all is_graphic w ≡ true → All (λ b. is_blank b ≡ false) w
-no_blanks w all k d h = no_blank (get_or w k d) (AllPass-from_list_all is_graphic w all k d h)
-  where
-    no_blank : (b : ℕ) → is_graphic b ≡ true → is_blank b ≡ false
-    no_blank b h = grind (arith, nat_tests)
+no_blanks w all k d h = let yes = AllPass-from_list_all is_graphic w all k d h in grind (arith, nat_tests, yes)
 
 -- a graphic byte is plain
 plain_word : (w : List ℕ) → list_all is_graphic w ≡ true → list_all is_plain w ≡ true

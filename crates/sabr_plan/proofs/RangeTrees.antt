@@ -1,46 +1,21 @@
 -- A tree of ranges by their keys: what it holds after a change, and which of its ranges a range can overlap.
-use Rattle.std.proofs.Common.{◌≡◌, ℕ, ◌+◌, ◌<◌, ◌≤◌, Bool, true, false, not, List, [], ◌∷◌, ◌++◌, length, get_or, drop, map, filter, refl, sym, ap, subst, ◌∙◌, inl, inr, length-drop, arith}
-use Rattle.std.specs.Prelude.{is_some, option_map, slice_get}
-use Rattle.std.specs.List.{list_any, AllByRecursion}
+use Rattle.sabr_plan.proofs.Names.{◌≡◌, ℕ, ◌+◌, ◌<◌, ◌≤◌, Bool, true, false, not, List, [], ◌∷◌, ◌++◌, length, get_or, drop, map, filter, refl, sym, ap, subst, ◌∙◌, inl, inr, length-drop, arith, is_some, option_map, slice_get, list_any, AllByRecursion, length_permutation, BTreeMap, get, insert_entry, is_at, values, match_ordering, is_lt, Option, Some, None, cases_order, cases_Bool, both_ways, false_from_ne_true, nat_tests, same_Some, slice_get-map, slice_get-get_or, slice_get_within, length-map, drop_more, get_or-drop, get_or_default, list_any_at, or_from_places, Range, by_key, put_in, IsPlan, IsNode, last_time, overlap, range_key, begins, by_range_key, range_refusal, IsBy, by_key_total, less_is, not_less_is, not_both, range_list, accepted_range, IsPlan-range, IsPlan-fewer_ranges}
 use Rattle.std.specs.List.Sorted.{IsStrictlySortedBy}
-use Rattle.std.proofs.lemmas.List.Sorted.{length_permutation}
 use Rattle.std.specs.Map.{lookup, remove_entry, keys_of, values_of}
-use Rattle.std.specs.BTreeMap.{BTreeMap, get, insert_entry, is_at, values}
 use Rattle.std.specs.BTreeMap.Range.{IsRangeOf}
 use Rattle.std.specs.declared.ops.Bound.TheVariants.{Excluded, Unbounded}
-use Rattle.std.specs.Ordering.{match_ordering, is_lt}
 use Rattle.std.specs.declared.cmp.Ordering.TheVariants.{Less, Equal}
-use Rattle.std.specs.declared.option.Option.{Option}
-use Rattle.std.specs.declared.option.Option.TheVariants.{Some, None}
-use Rattle.std.proofs.lemmas.Bool.{cases_order, cases_Bool, both_ways, false_from_ne_true}
-use Rattle.std.proofs.lemmas.Bool.Decides.{nat_tests}
 use Rattle.std.proofs.lemmas.Map.Entries.{lookup_head, lookup_tail, place_from_lookup, btree_map_get_place}
-use Rattle.std.proofs.lemmas.Option.{same_Some, slice_get-map, slice_get-get_or, slice_get_within}
-use Rattle.std.proofs.lemmas.List.{length-map, drop_more, get_or-drop, get_or_default}
-use Rattle.std.proofs.lemmas.List.Folds.{list_any_at}
-use Rattle.std.proofs.lemmas.List.Recursion.{or_from_places}
-use Rattle.sabr_model.specs.declared.contact.Range.{Range}
-use Rattle.sabr_model.specs.Order.{by_key, put_in}
-use Rattle.sabr_model.specs.plan.Plan.{IsPlan, IsNode, last_time, overlap, range_key}
-use Rattle.sabr_model.specs.plan.Adding.{begins, by_range_key, range_refusal}
 use Rattle.sabr_model.specs.plan.RangeOrder.{IsRangeList}
-use Rattle.sabr_model.proofs.PlanLemmas.KeyOrder.{IsBy, by_key_total, less_is, not_less_is, not_both}
-use Rattle.sabr_model.proofs.PlanLemmas.RangeOrder.{range_list}
-use Rattle.sabr_model.proofs.PlanLemmas.RangeLemmas.{accepted_range, IsPlan-range}
-use Rattle.sabr_model.proofs.PlanLemmas.Deletions.{IsPlan-fewer_ranges}
 use Rattle.sabr_plan.specs.Gathering.{keyed, plan_of_ranges, IsRangeTree}
 use Rattle.sabr_plan.proofs.SortedRanges.{no_range, no_tie, moved_by_put, all_from_places}
 
 abbrev Key : Type 0
 Key = ℕ × ℕ × ℕ
 
-keyed_values : (rs : List Range) → values_of (map keyed rs) ≡ rs
-keyed_values [] = refl
-keyed_values (r ∷ rs) = ap (λ xs. r ∷ xs) (keyed_values rs)
-
-keyed_keys : (rs : List Range) → keys_of (map keyed rs) ≡ map range_key rs
-keyed_keys [] = refl
-keyed_keys (r ∷ rs) = ap (λ ks. range_key r ∷ ks) (keyed_keys rs)
+keyed_parts : (rs : List Range) → (values_of (map keyed rs) ≡ rs) × (keys_of (map keyed rs) ≡ map range_key rs)
+keyed_parts [] = (refl, refl)
+keyed_parts (r ∷ rs) = let h = keyed_parts rs in (ap (λ xs. r ∷ xs) h.0, ap (λ ks. range_key r ∷ ks) h.1)
 
 -- ---- one more
 
@@ -96,7 +71,7 @@ module _ (m : BTreeMap Key Range) (rs : List Range) (holds : m.entries ≡ map k
   -- each range is found by its key
   there : (k : ℕ) (d : Range) → k < length rs → get by_key m (range_key (get_or rs k d)) ≡ Some (get_or rs k d)
   there k d lt =
-      let ordered = subst (IsStrictlySortedBy by_key) (sym (ap keys_of holds ∙ keyed_keys rs)) sorted in
+      let ordered = subst (IsStrictlySortedBy by_key) (sym (ap keys_of holds ∙ (keyed_parts rs).1)) sorted in
       btree_map_get_place by_key_total m k (range_key (get_or rs k d)) (get_or rs k d) ordered (ap (λ es. slice_get es k) holds ∙ slice_get-map keyed rs k ∙ ap (option_map keyed) (slice_get-get_or rs k d lt))
 
   -- what it overlaps begins before its end
@@ -146,7 +121,7 @@ module _ (m : BTreeMap Key Range) (rs : List Range) (holds : m.entries ≡ map k
 -- a tree of a plan's ranges
 pub tree_of : (m : BTreeMap Key Range) (rs : List Range) → m.entries ≡ map keyed rs → IsPlan (plan_of_ranges rs) → IsRangeTree m × (values m ≡ rs)
 tree_of m rs is plan =
-    let same : values m ≡ rs = ap values_of is ∙ keyed_values rs in
+    let same : values m ≡ rs = ap values_of is ∙ (keyed_parts rs).0 in
     ((is ∙ ap (map keyed) (sym same), subst (λ xs. IsPlan (plan_of_ranges xs)) (sym same) plan), same)
 
 -- a range goes before those that come after it

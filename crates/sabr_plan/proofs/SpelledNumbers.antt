@@ -1,22 +1,12 @@
 -- Digits, the number that they stand for, and texts that spell numbers.
-use Rattle.std.proofs.Common.{◌≡◌, ℕ, ◌+◌, ◌-◌, ◌*◌, ◌/◌, ◌%◌, ◌<◌, ◌≤◌, true, ◌&&◌, List, [], ◌∷◌, length, take, get_or, refl, ap, ◌∙◌, arith, rules, ◌^◌, false, cond, not, leb, sym, decimal, lit<, zero, suc}
-use Rattle.std.specs.Prelude.{nat_lt, Option, Some, None, if◌then◌else◌}
-use Rattle.std.specs.List.{list_all}
-use Rattle.std.proofs.lemmas.List.Folds.{list_all_more}
-use Rattle.std.specs.Str.Parse.{digits_value}
+use Rattle.sabr_plan.proofs.Names.{◌≡◌, ℕ, ◌+◌, ◌-◌, ◌*◌, ◌/◌, ◌%◌, ◌<◌, ◌≤◌, true, ◌&&◌, List, [], ◌∷◌, length, take, get_or, refl, ap, ◌∙◌, arith, rules, ◌^◌, false, cond, not, leb, sym, decimal, lit<, zero, suc, nat_lt, Option, Some, None, if◌then◌else◌, list_all, list_all_more, digits_value, nat_tests, lt-ltb, le-ltb, number_l, digits_l, bytes_eq, bytes_eq-Decides}
 use Rattle.std.specs.Char.{digit_value}
-use Rattle.std.proofs.lemmas.Bool.Decides.{nat_tests}
 use Rattle.std.proofs.lemmas.Int.Digits.{digits_value_more}
 use Rattle.std.proofs.lemmas.Str.Parse.{IsNumeralModel, numerals_by_value, digits_value_short, digits_value-take-le}
 use Rattle.std.proofs.Math.Bool.{and-false}
-use borrow.Author.Tests.{lt-ltb, le-ltb}
-use lib.Lanes.{number_l, digits_l}
 use Rattle.core.specs.Int.Digits.{AllBelowBase}
 use Rattle.sabr_plan.specs.Digits.{is_digit, are_digits, leads_with_zero}
-use Rattle.std.specs.Str.{bytes_eq}
 use Rattle.std.proofs.lemmas.Fmt.{decimal_is_IsNumeral_wide, decimal_is_IsNumeral, decimal-digits_value, digits_decimal, digits_value-decimal, decimal_digit, first_decimal}
-use Rattle.std.proofs.lemmas.Slice.Eq.{bytes_eq-Decides}
-use Rattle.std.specs.declared.option.Option.TheVariants.{Some, None}
 use Rattle.sabr_plan.specs.Numbers.{number_within}
 
 -- ---- digits and the number that they stand for

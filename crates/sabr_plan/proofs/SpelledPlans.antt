@@ -1,15 +1,6 @@
 -- The plan that a text spells obeys the rules of a plan. No text whose reader ended is refused as if it had failed.
-use Rattle.std.proofs.Common.{◌≡◌, ◌≢◌, ℕ, ◌+◌, ◌≤◌, Bool, true, false, List, [], ◌∷◌, length, refl, arith, Option, Some, None, Result, Ok, Err, ok_or, ◌<◌, ◌++◌, take, drop, get_or, sym, ap, ◌∙◌, append-nil}
-use Rattle.std.specs.Prelude.{nat_lt, nat_le, not, codes, MatchResult, if◌then◌else◌}
-use Rattle.std.specs.List.{list_all, flat_map}
-use Rattle.std.specs.Str.{bytes_eq}
-use Rattle.std.proofs.lemmas.Bool.{leb-true}
-use Rattle.sabr_model.specs.plan.Plan.{ContactPlan, IsPlan, IsNode, last_time, opens}
-use Rattle.sabr_model.specs.plan.Adding.{next_contact, contact_refusal, with_contact, without_contact, new_range, range_refusal, with_range, begins, without_range}
+use Rattle.sabr_plan.proofs.Names.{◌≡◌, ◌≢◌, ℕ, ◌+◌, ◌≤◌, Bool, true, false, List, [], ◌∷◌, length, refl, arith, Option, Some, None, Result, Ok, Err, ok_or, ◌<◌, ◌++◌, take, drop, get_or, sym, ap, ◌∙◌, append-nil, nat_lt, nat_le, not, codes, MatchResult, if◌then◌else◌, list_all, flat_map, bytes_eq, leb-true, ContactPlan, IsPlan, IsNode, last_time, opens, next_contact, contact_refusal, with_contact, without_contact, new_range, range_refusal, with_range, begins, without_range, IsPlan-empty, IsPlan-push, IsPlan-range, IsPlan-fewer_contacts, IsPlan-fewer_ranges, take_more, take-append-drop, Output, Written, WrittenInPart}
 use Rattle.sabr_model.specs.declared.fault.AddFault.{AddFault}
-use Rattle.sabr_model.proofs.PlanLemmas.ContactLemmas.{IsPlan-empty, IsPlan-push}
-use Rattle.sabr_model.proofs.PlanLemmas.RangeLemmas.{IsPlan-range}
-use Rattle.sabr_model.proofs.PlanLemmas.Deletions.{IsPlan-fewer_contacts, IsPlan-fewer_ranges}
 use Rattle.sabr_plan.specs.declared.fault.PlanFault.{PlanFault}
 use Rattle.sabr_plan.specs.declared.fault.PlanKind.{PlanKind}
 use Rattle.sabr_plan.specs.declared.command.Command.{Command}
@@ -25,9 +16,7 @@ use Rattle.sabr_plan.specs.Commands.{addition_of, deletion_of, target_of, target
 use Rattle.sabr_plan.specs.Reading.{Reading, most_line_bytes, most_lines, nothing_read, kind_of, changed, executed, at_line, limited, line_executed, read_line, read_lines, ended_line, last_line, plan_of}
 use Rattle.sabr_plan.proofs.Spelling.{time_of_tells}
 use Rattle.sabr_plan.proofs.SpelledNumbers.{number_within-range}
-use Rattle.std.proofs.lemmas.List.{take_more, take-append-drop}
 use Rattle.std.proofs.lemmas.List.Concat.{flat_map-append}
-use Rattle.sabr_model.specs.Devices.{Output, Written, WrittenInPart}
 use Rattle.sabr_model.proofs.ListLemmas.WrittenTexts.{WrittenInPart-after, WrittenInPart-more}
 use Rattle.sabr_model.specs.declared.fault.AddFault.TheVariants as add
 use Rattle.sabr_plan.specs.declared.fault.PlanKind.TheVariants as kind
@@ -197,12 +186,9 @@ module _ (ended : Bool) where
   lines_give n r (line ∷ lines) good =
       then_gives Refuses Obeys Obeys (read_line n r line) (λ r₁. read_lines (n + 1) r₁ lines) (read_gives n r line good) (λ r₁ good₁. lines_give (n + 1) r₁ lines good₁)
 
-  line_or_none : (n : ℕ) (line : List ℕ) (r : Reading) → IsPlan r.plan → MatchResult (ended_line n r line) Obeys Refuses
-  line_or_none n line r good = if_gives Refuses Obeys (has_bytes line) (read_line n r line) (Ok r) (λ _. read_gives n r line good) good
-
 last_gives : (ended : Bool) (n : ℕ) (line : List ℕ) (r : Reading) → IsPlan r.plan → MatchResult (last_line ended n line r) IsPlan (Refuses ended)
 last_gives false n line r good = λ e. cc
-last_gives true n line r good = given_gives (Refuses true) Obeys IsPlan (λ r₁. r₁.plan) (ended_line n r line) (line_or_none true n line r good) (λ r₁ good₁. good₁)
+last_gives true n line r good = given_gives (Refuses true) Obeys IsPlan (λ r₁. r₁.plan) (ended_line n r line) (if_gives (Refuses true) Obeys (has_bytes line) (read_line n r line) (Ok r) (λ _. read_gives true n r line good) good) (λ r₁ good₁. good₁)
 
 text_gives : (ended : Bool) (bytes : List ℕ) → MatchResult (plan_of bytes ended) IsPlan (Refuses ended)
 unfolding plan_of

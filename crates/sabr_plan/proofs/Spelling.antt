@@ -1,19 +1,11 @@
 -- Times as texts: the spelling of calendar and clock in 19 bytes, seconds and their fields, and days that are known.
-use Rattle.std.proofs.Common.{◌≡◌, ℕ, ◌+◌, ◌-◌, ◌*◌, ◌/◌, ◌%◌, ◌<◌, true, List, length, get_or, refl, arith, ◌≤◌, sym, ap, ◌∙◌, subst, pos, unsigned_abs, Option, Some, None, IfSome, false, eqb, [], ◌∷◌, ◌++◌, take, drop, append_assoc, Ok, ok_or}
-use Rattle.std.proofs.lemmas.Bool.{and_parts, ne_eqb}
-use Rattle.std.proofs.lemmas.Bool.Decides.{nat_tests}
-use Rattle.std.proofs.lemmas.Slice.Eq.{text_from_reads, bytes_eq-Decides}
-use borrow.Author.Tests.{eqb-true, le-leb}
+use Rattle.sabr_plan.proofs.Names.{◌≡◌, ℕ, ◌+◌, ◌-◌, ◌*◌, ◌/◌, ◌%◌, ◌<◌, true, List, length, get_or, refl, arith, ◌≤◌, sym, ap, ◌∙◌, subst, pos, unsigned_abs, Option, Some, None, IfSome, false, eqb, [], ◌∷◌, ◌++◌, take, drop, append_assoc, Ok, ok_or, and_parts, ne_eqb, nat_tests, text_from_reads, bytes_eq-Decides, eqb-true, le-leb, bytes_eq, last_time, take_more, number_l, digits_l}
 use Rattle.sabr_plan.specs.declared.time.TimeFields.{TimeFields}
 use Rattle.sabr_plan.specs.Times.{pair_at, spelled, CalendarDay, day_after_epoch, fields_of, last_spelled, time_text_of, second_named, time_of, is_pair, has_shape, fields_at, HasWidth, IsDate}
-use Rattle.std.specs.Str.{bytes_eq}
 use Rattle.jiff_core.specs.Calendar.{days_from_civil}
 use Rattle.jiff_core.proofs.SignedLemmas.{signed_arith}
 use Rattle.jiff_core.proofs.CalendarLemmas.{days_in_month_bounds}
-use Rattle.sabr_model.specs.plan.Plan.{last_time}
 use Rattle.sabr_plan.proofs.Days.{day_after_epoch_is}
-use Rattle.std.proofs.lemmas.List.{take_more}
-use lib.Lanes.{number_l, digits_l}
 use Rattle.core.specs.Dec2flt.Digits.{IsEightBytes}
 use Rattle.sabr_plan.specs.declared.fault.PlanKind.TheVariants.{BadTime}
 use Rattle.sabr_plan.specs.Operands.{relative_of, after_reference, absolute_time, time_at}
@@ -90,14 +82,12 @@ fields_at_spelled word h =
 pub spelled_has_shape : (f : TimeFields) → HasWidth f → has_shape (spelled f) ≡ true
 spelled_has_shape f w = grind (arith, nat_tests)
 
-two_value : (n : ℕ) → (48 + n / 10 - 48) * 10 + (48 + n % 10 - 48) ≡ n
-two_value n = omega arith
-
 -- the fields of a spelling are those that were spelled
 pub fields_at-spelled : (f : TimeFields) → fields_at (spelled f) ≡ f
 fields_at-spelled f =
     let year : f.year / 100 * 100 + f.year % 100 ≡ f.year = omega arith in
-    simp (two_value, year)
+    let two : (n : ℕ) → (48 + n / 10 - 48) * 10 + (48 + n % 10 - 48) ≡ n = λ n. omega arith in
+    simp (two, year)
 
 -- ---- seconds, their calendar and clock fields, and their text
 
@@ -233,10 +223,7 @@ date_of text t e h =
 pub date_bytes : (text : List ℕ) → IsEightBytes (take 8 text) → 9 < length text → take 10 text ≡ digits_l 256 8 (number_l 256 (take 8 text)) ++ get_or text 8 0 ∷ get_or text 9 0 ∷ []
 date_bytes text eight long =
     let front = bytes_are (take 8 text) 8 (number_l 256 (take 8 text)) eight refl in
-    take_more text 9 0 long ∙ ap (λ f. f ++ get_or text 9 0 ∷ []) (take_more text 8 0 (omega arith) ∙ ap (λ f. f ++ get_or text 8 0 ∷ []) front) ∙ two (digits_l 256 8 (number_l 256 (take 8 text)))
-  where
-    two : (xs : List ℕ) → (xs ++ get_or text 8 0 ∷ []) ++ get_or text 9 0 ∷ [] ≡ xs ++ get_or text 8 0 ∷ get_or text 9 0 ∷ []
-    two xs = rw append_assoc refl
+    take_more text 9 0 long ∙ ap (λ f. f ++ get_or text 9 0 ∷ []) (take_more text 8 0 (omega arith) ∙ ap (λ f. f ++ get_or text 8 0 ∷ []) front) ∙ append_assoc (digits_l 256 8 (number_l 256 (take 8 text))) (get_or text 8 0 ∷ []) (get_or text 9 0 ∷ [])
 
 graphic_spelled : (f : TimeFields) → HasWidth f → is_graphic_word (spelled f) ≡ true
 graphic_spelled f w = grind (arith, nat_tests)

@@ -1,10 +1,6 @@
 -- The pieces of a text between the bytes of one value.
-use Rattle.std.proofs.Common.{◌≡◌, ◌==◌, ℕ, ◌+◌, ◌<◌, ◌≤◌, List, [], ◌∷◌, length, take, drop, arith}
-use Rattle.std.specs.List.{position, position_or_len}
-use Rattle.std.proofs.lemmas.Grind.{common_steps}
-use Rattle.std.proofs.lemmas.List.Sums.{fails_before_first}
+use Rattle.sabr_plan.proofs.Names.{◌≡◌, ◌==◌, ℕ, ◌+◌, ◌<◌, ◌≤◌, List, [], ◌∷◌, length, take, drop, arith, position, position_or_len, common_steps, fails_before_first, Some, None}
 use Rattle.std.proofs.lemmas.List.Splits.{slice_split_first, slice_split_none, length-slice_split}
-use Rattle.std.specs.declared.option.Option.TheVariants.{Some, None}
 use Rattle.sabr_plan.specs.Pieces.{pieces_of}
 
 module _ (separator : ℕ) (text : List ℕ) where

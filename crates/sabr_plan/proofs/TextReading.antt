@@ -1,6 +1,5 @@
 -- Reading a text piece after piece, to its end or as far as it is read.
-use Rattle.std.proofs.Common.{◌≡◌, ℕ, ◌+◌, Bool, true, List, [], ◌++◌, ◌⊎◌, inl, inr, sym, ap, subst, ◌∙◌, append_assoc, append-nil, Result, Ok, Err, IfErr}
-use Rattle.sabr_model.specs.Devices.{Input, Gives, HasEnded}
+use Rattle.sabr_plan.proofs.Names.{◌≡◌, ℕ, ◌+◌, Bool, true, List, [], ◌++◌, ◌⊎◌, inl, inr, sym, ap, subst, ◌∙◌, append_assoc, append-nil, Result, Ok, Err, IfErr, Input, Gives, HasEnded}
 use Rattle.sabr_plan.specs.TextReading.{AreRefused, ContinuesAs, ReadsToEnd}
 use Rattle.sabr_model.proofs.ListLemmas.ReadTexts.{Gives-nil, Gives-append}
 

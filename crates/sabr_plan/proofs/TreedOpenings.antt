@@ -1,17 +1,5 @@
 -- A tree of the contacts that stand, by their openings: what it finds, and what one more leaves of it.
-use Rattle.std.proofs.Common.{◌≡◌, ℕ, zero, suc, ◌+◌, ◌<◌, true, false, ◌&&◌, List, [], ◌∷◌, ◌++◌, length, get_or, set, refl, subst, ◌∙◌, inl, inr, arith, length-append}
-use Rattle.std.specs.List.{list_any}
-use Rattle.std.specs.declared.option.Option.TheVariants.{Some, None}
-use Rattle.std.specs.BTreeMap.{BTreeMap, get, is_at, Updates}
-use Rattle.std.proofs.lemmas.Bool.{cases_eq, cases_lt, both_ways}
-use Rattle.std.proofs.lemmas.Bool.Decides.{nat_tests}
-use Rattle.std.proofs.lemmas.List.{get_or_append_left, get_or_default, get_or-set_same, get_or-set_other, length-set}
-use Rattle.std.proofs.lemmas.List.Folds.{list_any_at}
-use Rattle.std.proofs.lemmas.List.Recursion.{or_from_places}
-use Rattle.sabr_model.specs.declared.contact.Contact.{Contact}
-use Rattle.sabr_model.specs.declared.opening.Opening.{Opening}
-use Rattle.sabr_model.specs.plan.Plan.{same_opening, none_twice}
-use Rattle.sabr_model.specs.Order.{by_key}
+use Rattle.sabr_plan.proofs.Names.{◌≡◌, ℕ, zero, suc, ◌+◌, ◌<◌, true, false, ◌&&◌, List, [], ◌∷◌, ◌++◌, length, get_or, set, refl, subst, ◌∙◌, inl, inr, arith, length-append, list_any, Some, None, BTreeMap, get, is_at, Updates, cases_eq, cases_lt, both_ways, nat_tests, get_or_append_left, get_or_default, get_or-set_same, get_or-set_other, length-set, list_any_at, or_from_places, Contact, Opening, same_opening, none_twice, by_key}
 use Rattle.sabr_plan.specs.Gathering.{stands, standing, stands_at, IsTreed}
 use Rattle.sabr_plan.proofs.GatheredOpenings.{any_standing, no_contact}
 
@@ -23,9 +11,7 @@ treed_none indexes cs = record { within = omega arith; found = λ k d lt stays. 
 
 module _ (o : Opening) (indexes : BTreeMap (ℕ × ℕ × ℕ) ℕ) (treed : ℕ) (cs : List Contact) (h : IsTreed indexes treed cs) (all : treed ≡ length cs) where
   at_own : (k : ℕ) → k < length cs → stands_at o (get_or cs k no_contact) ≡ true → get by_key indexes (o.from, o.to, o.start) ≡ Some k
-  at_own k lt also =
-      let found = h.found k no_contact (omega (arith, lt, all)) in
-      grind (arith, nat_tests, found)
+  at_own k lt also = grind (arith, nat_tests, h.found k no_contact (omega (arith, lt, all)))
 
   pub nothing_there : get by_key indexes (o.from, o.to, o.start) ≡ None → list_any (stands_at o) cs ≡ false
   nothing_there is =
@@ -41,12 +27,8 @@ module _ (o : Opening) (indexes : BTreeMap (ℕ × ℕ × ℕ) ℕ) (treed : ℕ
 distinct : (cs : List Contact) (k j : ℕ) (d : Contact) → k < j → j < length cs → stands (get_or cs k d) ≡ true → stands (get_or cs j d) ≡ true → none_twice same_opening (standing cs) ≡ true → same_opening (get_or cs k d) (get_or cs j d) ≡ false
 distinct [] k j d less lt sk sj apart = absurd (omega (arith, lt))
 distinct (c ∷ cs) k zero d less lt sk sj apart = absurd (omega (arith, less))
-distinct (c ∷ cs) zero (suc j) d less lt sk sj apart =
-    let within : j < length cs = omega (arith, lt) in
-    grind (arith, nat_tests, any_standing (same_opening c) cs, list_any_at (λ e. same_opening c e && stands e) cs j d within)
-distinct (c ∷ cs) (suc k) (suc j) d less lt sk sj apart =
-    let rest = distinct cs k j d (omega (arith, less)) (omega (arith, lt)) sk sj in
-    grind (arith, nat_tests, rest)
+distinct (c ∷ cs) zero (suc j) d less lt sk sj apart = grind (arith, nat_tests, any_standing (same_opening c) cs, list_any_at (λ e. same_opening c e && stands e) cs j d (omega (arith, lt)))
+distinct (c ∷ cs) (suc k) (suc j) d less lt sk sj apart = grind (arith, nat_tests, distinct cs k j d (omega (arith, less)) (omega (arith, lt)) sk sj)
 
 abbrev key : Contact → ℕ × ℕ × ℕ
 key c = (c.from, c.to, c.start)

@@ -1,5 +1,5 @@
 -- The four parts of the text are fed in turn.
-use Rattle.std.proofs.Common.{[]}
+use Rattle.sabr_plan.proofs.Names.{[]}
 use Rattle.sabr_plan.specs.Canonical.{canonical_text}
 use Rattle.sabr_plan.proofs.canonical_text.digest.Goals as goal
 

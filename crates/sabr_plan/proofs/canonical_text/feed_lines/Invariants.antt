@@ -1,5 +1,4 @@
-use Rattle.std.proofs.Common.{ℕ, List, take, ◌++◌}
-use Rattle.std.specs.List.{flat_map}
+use Rattle.sabr_plan.proofs.Names.{ℕ, List, take, ◌++◌, flat_map}
 use Rattle.sha2.specs.Hashers.{Holds256}
 use Rattle.sabr_plan.proofs.canonical_text.feed_lines.Given as goal
 

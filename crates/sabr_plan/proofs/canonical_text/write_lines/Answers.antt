@@ -1,6 +1,5 @@
 -- The lines before the one that failed were written.
-use Rattle.std.proofs.Common.{ap, ◌∙◌}
-use Rattle.std.proofs.lemmas.Result.{err_from_is_err_and}
+use Rattle.sabr_plan.proofs.Names.{ap, ◌∙◌, err_from_is_err_and}
 use Rattle.sabr_plan.proofs.SpelledPlans.{stopped_at}
 use Rattle.sabr_plan.proofs.canonical_text.write_lines.Goals as goal
 

@@ -1,6 +1,4 @@
-use Rattle.std.proofs.Common.{take}
-use Rattle.std.specs.List.{flat_map}
-use Rattle.sabr_model.specs.Devices.{Written}
+use Rattle.sabr_plan.proofs.Names.{take, flat_map, Written}
 use Rattle.sabr_plan.proofs.canonical_text.write_lines.Given as goal
 
 abbrev pub invariant-loop-record : goal.invariant-loop-record

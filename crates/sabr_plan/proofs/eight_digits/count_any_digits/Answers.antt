@@ -1,8 +1,5 @@
 -- Nineteen digits always fit, and std reads them as this crate does.
-use Rattle.std.proofs.Common.{◌≡◌, take, true, ap, arith, length-take}
-use Rattle.std.specs.Prelude.{slice_range}
-use Rattle.std.specs.Str.Parse.{digits_value}
-use Rattle.std.specs.List.{list_all}
+use Rattle.sabr_plan.proofs.Names.{◌≡◌, take, true, ap, arith, length-take, slice_range, digits_value, list_all}
 use Rattle.core.proofs.dec2flt.Rows.{AllDigits-digits_len}
 use Rattle.sabr_plan.specs.Digits.{is_digit}
 use Rattle.sabr_plan.proofs.SpelledNumbers.{few_digits, numerals}

@@ -1,8 +1,5 @@
 -- The bytes before the first that is no digit are read.
-use Rattle.std.proofs.Common.{◌≡◌, ◌-◌, ◌*◌, ◌/◌, ◌%◌, ◌^◌, ◌<◌, take, refl, sym, ap, ◌∙◌, arith, take-take, length-take}
-use Rattle.std.specs.Prelude.{bit_xor}
-use Rattle.std.specs.List.{list_all}
-use Rattle.std.specs.Str.Parse.{digits_value}
+use Rattle.sabr_plan.proofs.Names.{◌≡◌, ◌-◌, ◌*◌, ◌/◌, ◌%◌, ◌^◌, ◌<◌, take, refl, sym, ap, ◌∙◌, arith, take-take, length-take, bit_xor, list_all, digits_value}
 use Rattle.core.specs.Float.Numeral.{digits_len}
 use Rattle.core.proofs.dec2flt.Eight.{eight_at, lanes_are, shifted_is, bytes_up}
 use lib.Count.{count_trailing_zeros}

@@ -1,13 +1,9 @@
 -- A sum carries only out of a byte that is at least 10, so no byte before the first of them is marked.
-use Rattle.std.proofs.Common.{◌≡◌, ℕ, zero, suc, ◌+◌, ◌*◌, ◌/◌, ◌%◌, ◌^◌, ◌<◌, Bool, true, false, cond, eqb, ltb, List, [], ◌∷◌, length, map, refl, sym, ap, ◌∙◌, arith}
-use Rattle.std.specs.Prelude.{bit_and, bit_or}
+use Rattle.sabr_plan.proofs.Names.{◌≡◌, ℕ, zero, suc, ◌+◌, ◌*◌, ◌/◌, ◌%◌, ◌^◌, ◌<◌, Bool, true, false, cond, eqb, ltb, List, [], ◌∷◌, length, map, refl, sym, ap, ◌∙◌, arith, bit_and, bit_or, and_block, or_block, or_lt, xor_lt, ltb-true, digits_l, number_l}
 use native.Mathlib.Nat.{mul_assoc, pow-suc, pow-succ'}
 use lib.Arith.{mod-mul}
-use lib.Bits.{and_block, or_block, or_lt, xor_lt}
 use lib.Count.{count_trailing_zeros}
 use lib.Dec.{eqb→eq}
-use borrow.Author.Tests.{ltb-true}
-use lib.Lanes.{digits_l, number_l}
 use Rattle.core.specs.Char.{is_ascii_digit}
 use Rattle.core.specs.Dec2flt.Digits.{less_zero}
 use Rattle.core.specs.Float.Numeral.{digits_len}
@@ -63,36 +59,27 @@ odd : (k y : ℕ) → count_trailing_zeros (suc k) (1 + 2 * y) ≡ 0
 unfolding count_trailing_zeros
 odd k y = let one : (1 + 2 * y) % 2 ≡ 1 = omega arith in rw one refl
 
+-- a word of one more byte, which is a digit or not
+mark_more : (n w b k : ℕ) (d : Bool) → b < 256 → cond d (low b + (b + 118) / 256) (low b) ≡ cond d 0 128 → (0 < mark n w → (k < n) × (count_trailing_zeros (8 * n) (mark n w) ≡ 8 * k + 7)) → 0 < mark (suc n) (b + 256 * w)
+    → (cond d (1 + k) 0 < suc n) × (count_trailing_zeros (8 * suc n) (mark (suc n) (b + 256 * w)) ≡ 8 * cond d (1 + k) 0 + 7)
+mark_more n w b k true h e marks some =
+    let none : (b + 118) / 256 ≡ 0 = omega arith in
+    let unmarked : low b ≡ 0 = omega arith in
+    let same : w + each 118 n + 0 ≡ w + each 118 n = omega arith in
+    let is : mark (suc n) (b + 256 * w) ≡ 2 ^ 8 * mark n w = step n b w h ∙ rw (none, unmarked, same) (omega arith) in
+    let rest = marks (omega (arith, is, some)) in
+    let long : 8 * suc n ≡ 8 + 8 * n = omega arith in
+    (omega (arith, rest.0), rw (is, long, zeros 8 (8 * n) (mark n w)) (omega (arith, rest.1)))
+mark_more n w b k false h e marks some =
+    let high = bit_and (bit_or ((w + each 118 n + (b + 118) / 256) % 256 ^ n) w) (each 128 n) in
+    let is : mark (suc n) (b + 256 * w) ≡ 2 ^ 7 * (1 + 2 * high) = step n b w h ∙ omega arith in
+    let long : 8 * suc n ≡ 7 + suc (8 * n) = omega arith in
+    (omega arith, rw (is, long, zeros 7 (suc (8 * n)) (1 + 2 * high), odd (8 * n) high) refl)
+
 marked : (xs : List ℕ) → AllBelowBase 256 xs → 0 < mark (length xs) (number_l 256 (map less_zero xs)) → (digits_len xs < length xs) × (count_trailing_zeros (8 * length xs) (mark (length xs) (number_l 256 (map less_zero xs))) ≡ 8 * digits_len xs + 7)
 marked [] h some = absurd (omega arith)
-marked (y ∷ xs) h some = by (is_ascii_digit y) (byte y h.0) (marked xs h.1)
-  where
-    n : ℕ
-    n = length xs
-
-    w : ℕ
-    w = number_l 256 (map less_zero xs)
-
-    b : ℕ
-    b = less_zero y
-
-    parts : mark (suc n) (b + 256 * w) ≡ bit_and (bit_or ((w + each 118 n + (b + 118) / 256) % 256 ^ n) w) (each 128 n) * 2 ^ 8 + low b
-    parts = step n b w (xor_lt 8 y 48 h.0 (omega arith))
-
-    by : (d : Bool) → cond d (low b + (b + 118) / 256) (low b) ≡ cond d 0 128 → (0 < mark n w → (digits_len xs < n) × (count_trailing_zeros (8 * n) (mark n w) ≡ 8 * digits_len xs + 7)) → (cond d (1 + digits_len xs) 0 < suc n) × (count_trailing_zeros (8 * suc n) (mark (suc n) (b + 256 * w)) ≡ 8 * cond d (1 + digits_len xs) 0 + 7)
-    by true e marks =
-        let none : (b + 118) / 256 ≡ 0 = omega arith in
-        let unmarked : low b ≡ 0 = omega arith in
-        let same : w + each 118 n + 0 ≡ w + each 118 n = omega arith in
-        let is : mark (suc n) (b + 256 * w) ≡ 2 ^ 8 * mark n w = parts ∙ rw (none, unmarked, same) (omega arith) in
-        let rest = marks (omega (arith, is, some)) in
-        let long : 8 * suc n ≡ 8 + 8 * n = omega arith in
-        (omega (arith, rest.0), rw (is, long, zeros 8 (8 * n) (mark n w)) (omega (arith, rest.1)))
-    by false e marks =
-        let high = bit_and (bit_or ((w + each 118 n + (b + 118) / 256) % 256 ^ n) w) (each 128 n) in
-        let is : mark (suc n) (b + 256 * w) ≡ 2 ^ 7 * (1 + 2 * high) = parts ∙ omega arith in
-        let long : 8 * suc n ≡ 7 + suc (8 * n) = omega arith in
-        (omega arith, rw (is, long, zeros 7 (suc (8 * n)) (1 + 2 * high), odd (8 * n) high) refl)
+marked (y ∷ xs) h some =
+    mark_more (length xs) (number_l 256 (map less_zero xs)) (less_zero y) (digits_len xs) (is_ascii_digit y) (xor_lt 8 y 48 h.0 (omega arith)) (byte y h.0) (marked xs h.1) some
 
 unmarked : (n w : ℕ) → mark n w ≡ 0 → AllBelowBase 10 (digits_l 256 n w)
 unmarked zero w none = tt

@@ -1,7 +1,5 @@
 -- Each multiplication adds to a lane the one before it, times 10 or 100.
-use Rattle.std.proofs.Common.{◌≡◌, ℕ, ◌+◌, ◌*◌, ◌/◌, ◌%◌, ◌^◌, ◌<◌, [], ◌∷◌, refl, ap, ◌∙◌, arith}
-use Rattle.std.specs.Prelude.{bit_and}
-use lib.Bits.{and_block, and_mask}
+use Rattle.sabr_plan.proofs.Names.{◌≡◌, ℕ, ◌+◌, ◌*◌, ◌/◌, ◌%◌, ◌^◌, ◌<◌, [], ◌∷◌, refl, ap, ◌∙◌, arith, bit_and, and_block, and_mask}
 use Rattle.sabr_plan.proofs.eight_digits.value_of_seven.Goals as goal
 
 -- the mask keeps the first of two bytes

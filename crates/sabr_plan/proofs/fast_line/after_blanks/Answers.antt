@@ -1,8 +1,5 @@
 -- Blanks don't end a text that has an LF.
-use Rattle.std.proofs.Common.{◌≡◌, ℕ, ◌-◌, ◌<◌, List, length, take, drop, true, false, sym, arith, inl, inr, length-drop}
-use Rattle.std.specs.List.{list_all}
-use Rattle.std.proofs.lemmas.Bool.{cases_lt}
-use Rattle.std.proofs.lemmas.List.{take_all, take-append-drop}
+use Rattle.sabr_plan.proofs.Names.{◌≡◌, ℕ, ◌-◌, ◌<◌, List, length, take, drop, true, false, sym, arith, inl, inr, length-drop, list_all, cases_lt, take_all, take-append-drop}
 use Rattle.sabr_plan.specs.Words.{is_blank, is_one_line}
 use Rattle.sabr_plan.specs.PlainWords.{IsAfterBlanks}
 use Rattle.sabr_plan.proofs.PlainWords.{plain_blanks, plain_one, ended_blanks}

@@ -1,5 +1,4 @@
-use Rattle.std.proofs.Common.{◌≡◌, ◌-◌, ◌≤◌, length, take, true}
-use Rattle.std.specs.List.{list_all}
+use Rattle.sabr_plan.proofs.Names.{◌≡◌, ◌-◌, ◌≤◌, length, take, true, list_all}
 use Rattle.sabr_plan.specs.Words.{is_blank}
 use Rattle.sabr_plan.proofs.fast_line.after_blanks.Given as goal
 

@@ -1,6 +1,5 @@
 -- Five operands come one after another, and are those of the command in the words of the line.
-use Rattle.std.proofs.Common.{◌≡◌, ℕ, List, Option, Ok, true, false, [], ◌∷◌, ◌++◌, ap, refl, ok_or}
-use Rattle.std.specs.List.{list_all}
+use Rattle.sabr_plan.proofs.Names.{◌≡◌, ℕ, List, Option, Ok, true, false, [], ◌∷◌, ◌++◌, ap, refl, ok_or, list_all}
 use Rattle.sabr_plan.specs.Words.{is_plain, is_comment, words_of}
 use Rattle.sabr_plan.specs.PlainWords.{name_of}
 use Rattle.sabr_plan.specs.Operands.{time_at, node_of, value_of}

@@ -1,6 +1,5 @@
 -- Eight bytes that make this number, and a ninth; or the first seven of them.
-use Rattle.std.proofs.Common.{◌≡◌, ℕ, ◌-◌, true, List, ◌∷◌, [], ◌++◌, length, take, drop, refl, ◌∙◌, sym, ap, arith, take-take, length-drop}
-use Rattle.std.proofs.lemmas.List.{take_all, take_more, take-append-drop}
+use Rattle.sabr_plan.proofs.Names.{◌≡◌, ℕ, ◌-◌, true, List, ◌∷◌, [], ◌++◌, length, take, drop, refl, ◌∙◌, sym, ap, arith, take-take, length-drop, take_all, take_more, take-append-drop}
 use Rattle.core.proofs.dec2flt.Eight.{eight_at}
 use Rattle.sabr_plan.specs.PlainWords.{AddsAhead, name_of, is_graphic_word}
 use Rattle.sabr_plan.specs.declared.command.Target.{Target}

@@ -1,9 +1,5 @@
 -- The text of a time is a word; so is `+` with digits after it.
-use Rattle.std.proofs.Common.{Option, Some, None, true, ℕ, List, ◌≡◌, ◌<◌, ◌≤◌, length, ◌∷◌, refl, sym, ap, ◌∙◌, arith}
-use Rattle.std.specs.List.{list_all}
-use Rattle.std.specs.Str.Parse.{digits_value}
-use Rattle.std.proofs.lemmas.Bool.Decides.{nat_tests}
-use borrow.Author.Tests.{le-leb, lt-ltb}
+use Rattle.sabr_plan.proofs.Names.{Option, Some, None, true, ℕ, List, ◌≡◌, ◌<◌, ◌≤◌, length, ◌∷◌, refl, sym, ap, ◌∙◌, arith, list_all, digits_value, nat_tests, le-leb, lt-ltb}
 use Rattle.sabr_plan.specs.Digits.{is_digit}
 use Rattle.sabr_plan.specs.Operands.{after_reference, absolute_time, relative_of, time_at}
 use Rattle.sabr_plan.proofs.PlainWords.{graphic_digits, graphic_behind}

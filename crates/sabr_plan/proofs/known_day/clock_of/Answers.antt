@@ -1,9 +1,5 @@
 -- No byte but `:` is above that of midnight by ten or more, so none of the differences borrows from the next one.
-use Rattle.std.proofs.Common.{◌≡◌, ℕ, ◌+◌, ◌-◌, ◌*◌, ◌/◌, ◌%◌, ◌^◌, ◌<◌, ◌≤◌, List, [], ◌∷◌, length, take, drop, get_or, refl, sym, ap, ◌∙◌, arith, length-drop}
-use Rattle.std.specs.Prelude.{bit_and}
-use Rattle.std.proofs.lemmas.List.{take_all}
-use lib.Bits.{and_block, and_mask}
-use lib.Lanes.{number_l, digits_l}
+use Rattle.sabr_plan.proofs.Names.{◌≡◌, ℕ, ◌+◌, ◌-◌, ◌*◌, ◌/◌, ◌%◌, ◌^◌, ◌<◌, ◌≤◌, List, [], ◌∷◌, length, take, drop, get_or, refl, sym, ap, ◌∙◌, arith, length-drop, bit_and, take_all, text_from_reads, and_block, and_mask, number_l, digits_l}
 use Rattle.core.specs.Dec2flt.Digits.{IsEightBytes}
 use Rattle.core.specs.Int.Digits.{AllBelowBase}
 use Rattle.core.proofs.dec2flt.Eight.{eight_at}
@@ -47,51 +43,27 @@ spelled a b d e g h s A B D E G H M S is day =
     let hour : s % 86400 / 3600 ≡ 10 * a + b = omega arith in
     let minute : s % 86400 % 3600 / 60 ≡ 10 * d + e = omega arith in
     let second : s % 86400 % 60 ≡ 10 * g + h = omega arith in
-    let p : a ≡ (10 * a + b) / 10 = omega arith in
-    let q : b ≡ (10 * a + b) % 10 = omega arith in
-    let r : d ≡ (10 * d + e) / 10 = omega arith in
-    let t : e ≡ (10 * d + e) % 10 = omega arith in
-    let u : g ≡ (10 * g + h) / 10 = omega arith in
-    let v : h ≡ (10 * g + h) % 10 = omega arith in
-    rw (hour, minute, second) (λ i. 45 ∷ (48 + p i) ∷ (48 + q i) ∷ 58 ∷ (48 + r i) ∷ (48 + t i) ∷ 58 ∷ (48 + u i) ∷ (48 + v i) ∷ [])
+    rw (hour, minute, second) (text_from_reads _ _ refl (refl, (omega arith, (omega arith, (refl, (omega arith, (omega arith, (refl, (omega arith, (omega arith, tt))))))))))
 
 -- the first byte and the others
 first_of : (text : List ℕ) → length text ≡ 9 → get_or text 0 0 ≡ 45 → text ≡ 45 ∷ take 8 (drop 1 text)
 first_of [] long dash = absurd (omega (arith, long))
 first_of (b ∷ bs) long dash = λ i. dash i ∷ sym (take_all 8 bs (omega (arith, long))) i
 
-clock : (text : List ℕ) (lanes hour minute second : ℕ) → length text ≡ 9 → get_or text 0 0 ≡ 45 → IsEightBytes (take 8 (drop 1 text)) → number_l 256 (take 8 (drop 1 text)) < 2 ^ 64
-    → lanes ≡ (number_l 256 (take 8 (drop 1 text)) + (2 ^ 64 - 0x3030_3a30_303a_3030)) % 2 ^ 64 → AllBelowBase 10 (digits_l 256 8 lanes) → bit_and lanes 0x0000_ff00_00ff_0000 ≡ 0
+clock : (text : List ℕ) (lanes a b x d e y g h hour minute second : ℕ) → length text ≡ 9 → get_or text 0 0 ≡ 45 → IsEightBytes (take 8 (drop 1 text)) → number_l 256 (take 8 (drop 1 text)) < 2 ^ 64
+    → lanes ≡ (number_l 256 (take 8 (drop 1 text)) + (2 ^ 64 - 0x3030_3a30_303a_3030)) % 2 ^ 64 → AllBelowBase 10 (a ∷ b ∷ x ∷ d ∷ e ∷ y ∷ g ∷ h ∷ []) → bit_and lanes 0x0000_ff00_00ff_0000 ≡ 0
+    → a + 256 * (b + 256 * (x + 256 * (d + 256 * (e + 256 * (y + 256 * (g + 256 * h)))))) ≡ lanes
     → let pairs = (lanes * 10 % 2 ^ 64 + lanes / 2 ^ 8) % 2 ^ 64 in hour ≡ pairs % 256 → minute ≡ pairs / 2 ^ 24 % 256 → second ≡ pairs / 2 ^ 48 % 256 → hour ≤ 23 → minute ≤ 59 → second ≤ 59
     → (text ≡ drop 10 (time_text_of (hour * 3600 + minute * 60 + second))) × (hour * 3600 + minute * 60 + second < 86400)
-clock text lanes hour minute second long dash eight fits is ten none H M S h59 m59 s59 =
-    let q1 = lanes / 256 in
-    let q2 = q1 / 256 in
-    let q3 = q2 / 256 in
-    let q4 = q3 / 256 in
-    let q5 = q4 / 256 in
-    let q6 = q5 / 256 in
-    let q7 = q6 / 256 in
-    let t1 = ten.1 in
-    let t2 = t1.1 in
-    let t3 = t2.1 in
-    let t4 = t3.1 in
-    let t5 = t4.1 in
-    let t6 = t5.1 in
-    let t7 = t6.1 in
-    let whole : lanes % 256 + 256 * (q1 % 256 + 256 * (q2 % 256 + 256 * (q3 % 256 + 256 * (q4 % 256 + 256 * (q5 % 256 + 256 * (q6 % 256 + 256 * (q7 % 256))))))) ≡ lanes = omega (arith, is) in
+clock text lanes a b x d e y g h hour minute second long dash eight fits is (A, (B, (X, (D, (E, (Y, (G, (H, _)))))))) none whole hours minutes seconds h59 m59 s59 =
     let colon = colons lanes none in
-    let x : q2 % 256 ≡ 0 = omega (arith, colon.0) in
-    let y : q5 % 256 ≡ 0 = omega (arith, colon.1) in
-    let v = values (lanes % 256) (q1 % 256) (q3 % 256) (q4 % 256) (q6 % 256) (q7 % 256) lanes ten.0 t1.0 t3.0 t4.0 t6.0 t7.0 (sym whole ∙ (λ i. lanes % 256 + 256 * (q1 % 256 + 256 * (x i + 256 * (q3 % 256 + 256 * (q4 % 256 + 256 * (y i + 256 * (q6 % 256 + 256 * (q7 % 256))))))))) in
-    let hours = H ∙ v.0 in
-    let minutes = M ∙ v.1 in
-    let seconds = S ∙ v.2 in
-    let day : hour * 3600 + minute * 60 + second < 86400 = omega (arith, h59, m59, s59) in
-    let front = bytes (take 8 (drop 1 text)) eight fits (lanes % 256) (q1 % 256) (q2 % 256) (q3 % 256) (q4 % 256) (q5 % 256) (q6 % 256) (q7 % 256) ten.0 t1.0 t2.0 t3.0 t4.0 t5.0 t6.0 t7.0 (whole ∙ is) in (
-      first_of text long dash ∙ ap (λ f. 45 ∷ f) front
-          ∙ (λ i. 45 ∷ (48 + lanes % 256) ∷ (48 + q1 % 256) ∷ (58 + x i) ∷ (48 + q3 % 256) ∷ (48 + q4 % 256) ∷ (58 + y i) ∷ (48 + q6 % 256) ∷ (48 + q7 % 256) ∷ [])
-          ∙ spelled (lanes % 256) (q1 % 256) (q3 % 256) (q4 % 256) (q6 % 256) (q7 % 256) (hour * 3600 + minute * 60 + second) ten.0 t1.0 t3.0 t4.0 t6.0 t7.0 (omega (arith, minutes, m59)) (omega (arith, seconds, s59)) (λ i. hours i * 3600 + minutes i * 60 + seconds i) day,
+    let p : x ≡ 0 = omega (arith, colon.0, whole, A, B, X, D, E, Y, G, H) in
+    let q : y ≡ 0 = omega (arith, colon.1, whole, A, B, X, D, E, Y, G, H) in
+    let v = values a b d e g h lanes A B D E G H (sym whole ∙ (λ i. a + 256 * (b + 256 * (p i + 256 * (d + 256 * (e + 256 * (q i + 256 * (g + 256 * h)))))))) in
+    let day : hour * 3600 + minute * 60 + second < 86400 = omega (arith, h59, m59, s59) in (
+      first_of text long dash ∙ ap (λ f. 45 ∷ f) (bytes (take 8 (drop 1 text)) eight fits a b x d e y g h A B X D E Y G H (whole ∙ is))
+          ∙ (λ i. 45 ∷ (48 + a) ∷ (48 + b) ∷ (58 + p i) ∷ (48 + d) ∷ (48 + e) ∷ (58 + q i) ∷ (48 + g) ∷ (48 + h) ∷ [])
+          ∙ spelled a b d e g h (hour * 3600 + minute * 60 + second) A B D E G H (omega (arith, minutes, v.1, m59)) (omega (arith, seconds, v.2, s59)) (λ i. (hours ∙ v.0) i * 3600 + (minutes ∙ v.1) i * 60 + (seconds ∙ v.2) i) day,
       day,
     )
 
@@ -101,5 +73,6 @@ returns c =
     let back : take (length text - 1) (drop 1 text) ≡ drop 1 text = take_all (length text - 1) (drop 1 text) (omega (arith, length-drop 1 text)) in
     let word = c.first_eight-lanes.ensures ∙ ap (λ t. number_l 256 (take 8 t)) back in
     let eight = eight_at text 1 (λ i. (c.type_inv.text i).fits) (omega (arith, c.requires)) in
-    clock text _ _ _ _ c.requires c.if-text-ne45.false eight (rw word at c.first_eight-lanes.type_inv) (ap (λ w. (w + 14974404782364938192) % 2 ^ 64) word)
-    (c.mark_from_ten.ensures.none c.if-mark_from_ten-ne0.false) c.if-lanes-ne0.false refl refl refl c.if-hour-gt23.false c.if-minute-gt59.false c.if-second-gt59.false
+    let lanes = (c.first_eight-lanes.result + 14974404782364938192) % 2 ^ 64 in
+    clock text lanes (lanes % 256) (lanes / 256 % 256) (lanes / 256 / 256 % 256) (lanes / 256 / 256 / 256 % 256) (lanes / 256 / 256 / 256 / 256 % 256) (lanes / 256 / 256 / 256 / 256 / 256 % 256) (lanes / 256 / 256 / 256 / 256 / 256 / 256 % 256) (lanes / 256 / 256 / 256 / 256 / 256 / 256 / 256 % 256) _ _ _ c.requires c.if-text-ne45.false eight (rw word at c.first_eight-lanes.type_inv) (ap (λ w. (w + 14974404782364938192) % 2 ^ 64) word)
+    (c.mark_from_ten.ensures.none c.if-mark_from_ten-ne0.false) c.if-lanes-ne0.false (omega arith) refl refl refl c.if-hour-gt23.false c.if-minute-gt59.false c.if-second-gt59.false

@@ -1,5 +1,5 @@
 -- Digits, few enough to be small, spell what they stand for.
-use Rattle.std.proofs.Common.{Some, sym, ap, ◌∙◌}
+use Rattle.sabr_plan.proofs.Names.{Some, sym, ap, ◌∙◌}
 use Rattle.sabr_plan.proofs.SpelledNumbers.{small_digits, within_yes}
 use Rattle.sabr_plan.proofs.number.checked_value.Goals as goal
 

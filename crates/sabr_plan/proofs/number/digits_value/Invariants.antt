@@ -1,6 +1,4 @@
-use Rattle.std.proofs.Common.{◌≡◌, ◌<◌, take, true}
-use Rattle.std.specs.List.{list_all}
-use Rattle.std.specs.Str.Parse.{digits_value}
+use Rattle.sabr_plan.proofs.Names.{◌≡◌, ◌<◌, take, true, list_all, digits_value}
 use Rattle.sabr_plan.specs.Digits.{is_digit}
 use Rattle.sabr_plan.proofs.number.digits_value.Given as goal
 

@@ -1,6 +1,5 @@
 -- What digits stand for is what they spell.
-use Rattle.std.proofs.Common.{sym, ◌∙◌, arith}
-use Rattle.std.proofs.lemmas.Bool.Decides.{nat_tests}
+use Rattle.sabr_plan.proofs.Names.{sym, ◌∙◌, arith, nat_tests}
 use Rattle.sabr_plan.proofs.SpelledNumbers.{within, within_yes}
 use Rattle.sabr_plan.proofs.number.number_within.Goals as goal
 

@@ -1,5 +1,5 @@
 -- The text is one piece.
-use Rattle.std.proofs.lemmas.Result.{err_from_is_err_and}
+use Rattle.sabr_plan.proofs.Names.{err_from_is_err_and}
 use Rattle.sabr_plan.proofs.Held.{all_was_read, all_is_refused}
 use Rattle.sabr_plan.proofs.read.parse_plan.Goals as goal
 

@@ -1,6 +1,5 @@
 -- One piece after another, to the end of the text or its first bad line.
-use Rattle.std.proofs.Common.{arith}
-use Rattle.std.proofs.lemmas.Result.{err_from_is_err_and}
+use Rattle.sabr_plan.proofs.Names.{arith, err_from_is_err_and}
 use Rattle.sabr_model.proofs.ListLemmas.ReadTexts.{end_told}
 use Rattle.sabr_plan.proofs.TextReading.{text_ended}
 use Rattle.sabr_plan.specs.Feeding.{Answers}

@@ -1,4 +1,4 @@
-use Rattle.std.proofs.Common.{◌≡◌, ◌+◌, ◌-◌, ◌*◌}
+use Rattle.sabr_plan.proofs.Names.{◌≡◌, ◌+◌, ◌-◌, ◌*◌}
 use Rattle.sabr_plan.proofs.TextReading.{HasRead}
 use Rattle.sabr_plan.specs.Reading.{most_lines, plan_of}
 use Rattle.sabr_plan.specs.Feeding.{outcome, weight}

@@ -1,5 +1,5 @@
 -- The calendar has a day if jiff has its date, and the date's number is the day's.
-use Rattle.std.proofs.lemmas.Bool.{false≢true}
+use Rattle.sabr_plan.proofs.Names.{false≢true}
 use Rattle.sabr_plan.proofs.Days.{is_date, numbered}
 use Rattle.sabr_plan.proofs.time.day_number.Goals as goal
 

@@ -1,5 +1,5 @@
 -- The date of the day's number has the day's year, month and day.
-use Rattle.std.proofs.Common.{ℕ, ◌/◌, ◌≤◌, refl, arith}
+use Rattle.sabr_plan.proofs.Names.{ℕ, ◌/◌, ◌≤◌, refl, arith}
 use Rattle.jiff_core.proofs.SignedLemmas.{signed_arith}
 use Rattle.sabr_plan.specs.Times.{fields_of}
 use Rattle.sabr_plan.proofs.Days.{day_after_epoch_is, date_of_day}

@@ -1,7 +1,5 @@
 -- A text is a time if its fields are those of a second.
-use Rattle.std.proofs.Common.{◌≡◌, ◌≢◌, ℕ, ◌≤◌, List, Option, Some, None, IfSome, IsNone, true, false, sym, ap, ◌∙◌, refl, arith}
-use Rattle.std.proofs.lemmas.Bool.{false≢true}
-use Rattle.sabr_model.specs.plan.Plan.{last_time}
+use Rattle.sabr_plan.proofs.Names.{◌≡◌, ◌≢◌, ℕ, ◌≤◌, List, Option, Some, None, IfSome, IsNone, true, false, sym, ap, ◌∙◌, refl, arith, false≢true, last_time}
 use Rattle.sabr_plan.specs.Times.{fields_of, spelled, time_text_of, has_shape, fields_at}
 use Rattle.sabr_plan.proofs.Spelling.{fields_at_spelled, text_has_shape, fields_at-text, fields_of_injective, time_of_is}
 use Rattle.sabr_plan.proofs.time.parse_time.Goals as goal

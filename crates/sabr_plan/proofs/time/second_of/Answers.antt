@@ -1,5 +1,5 @@
 -- A second is a day's number and the time of day.
-use Rattle.std.proofs.Common.{◌≡◌, ℕ, ◌+◌, ◌*◌, ◌/◌, ◌≤◌, refl, sym, ap, ◌∙◌, arith}
+use Rattle.sabr_plan.proofs.Names.{◌≡◌, ℕ, ◌+◌, ◌*◌, ◌/◌, ◌≤◌, refl, sym, ap, ◌∙◌, arith}
 use Rattle.sabr_plan.specs.declared.time.TimeFields.{TimeFields}
 use Rattle.sabr_plan.specs.Times.{day_after_epoch, fields_of}
 use Rattle.sabr_plan.proofs.Spelling.{fields_of-clock, fields_of_injective, day_of, day_of-fields_of}

@@ -1,15 +1,8 @@
-use Rattle.std.proofs.Common.{◌≡◌, ℕ, ◌<◌, ◌≤◌, ◌∙◌, Bool, true, false, not, cond, get_or, length, refl, ap, sym, arith}
-use Rattle.std.specs.Prelude.{is_none, is_some}
+use Rattle.sabr_plan.proofs.Names.{◌≡◌, ℕ, ◌<◌, ◌≤◌, ◌∙◌, Bool, true, false, not, cond, get_or, length, refl, ap, sym, arith, is_none, is_some, Option, Some, None, get_or-map, same_Some, slice_get-get_or, Contact, IsPlan, TabledPlan}
 use mir.Val.{bool_byte}
-use Rattle.std.specs.declared.option.Option.{Option}
-use Rattle.std.specs.declared.option.Option.TheVariants.{Some, None}
-use Rattle.std.proofs.lemmas.List.{get_or-map}
 use Rattle.std.proofs.lemmas.List.Filters.{length-filter_more}
-use Rattle.std.proofs.lemmas.Option.{same_Some, slice_get-get_or}
-use Rattle.sabr_model.specs.declared.contact.Contact.{Contact}
 use Rattle.sabr_model.specs.declared.hop.Hop.{Hop}
 use Rattle.sabr_model.specs.plan.Light.{light_of}
-use Rattle.sabr_model.specs.plan.Plan.{IsPlan, TabledPlan}
 use Rattle.sabr_model.specs.plan.Tabled.{IsHopNamed}
 use Rattle.sabr_model.proofs.PlanLemmas.Numbered.{found_here}
 use Rattle.sabr_plan.proofs.GatheredOpenings.{no_contact}

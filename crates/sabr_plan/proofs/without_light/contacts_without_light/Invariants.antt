@@ -1,6 +1,4 @@
-use Rattle.std.proofs.Common.{◌≡◌, ◌≤◌, length, take}
-use Rattle.std.specs.List.{filter}
-use Rattle.std.specs.Prelude.{is_none}
+use Rattle.sabr_plan.proofs.Names.{◌≡◌, ◌≤◌, length, take, filter, is_none}
 use Rattle.sabr_model.specs.plan.Light.{light_of}
 use Rattle.sabr_plan.proofs.without_light.contacts_without_light.Given as goal
 

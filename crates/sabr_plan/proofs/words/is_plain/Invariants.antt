@@ -1,5 +1,4 @@
-use Rattle.std.proofs.Common.{◌≡◌, take}
-use Rattle.std.specs.List.{list_all}
+use Rattle.sabr_plan.proofs.Names.{◌≡◌, take, list_all}
 use Rattle.sabr_plan.specs.Words.{is_plain}
 use Rattle.sabr_plan.proofs.words.is_plain.Given as goal
 

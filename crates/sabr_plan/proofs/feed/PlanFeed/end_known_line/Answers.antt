@@ -1,5 +1,5 @@
 -- A line within the limits is line_executed.
-use Rattle.std.proofs.Common.{refl, sym, ap, ◌∙◌, ◌<◌, arith}
+use Rattle.sabr_plan.proofs.Names.{refl, sym, ap, ◌∙◌, ◌<◌, arith}
 use Rattle.sabr_plan.specs.Reading.{most_lines}
 use Rattle.sabr_plan.specs.Feeding.{Fed}
 use Rattle.sabr_plan.proofs.Held.{known_refused, known_read}

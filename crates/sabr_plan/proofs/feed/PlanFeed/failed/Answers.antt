@@ -1,5 +1,5 @@
 -- After what is held, the reader's failure is reported.
-use Rattle.std.proofs.Common.{ap, ◌∙◌, Err, false}
+use Rattle.sabr_plan.proofs.Names.{ap, ◌∙◌, Err, false}
 use Rattle.sabr_plan.specs.Feeding.{Fed}
 use Rattle.sabr_plan.proofs.Held.{broken_held}
 use Rattle.sabr_plan.proofs.Outcomes.{outcome-end}

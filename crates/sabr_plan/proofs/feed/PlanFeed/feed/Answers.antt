@@ -1,14 +1,9 @@
 -- Each LF of a piece ends a line, and what comes after the last is held.
-use Rattle.std.proofs.Common.{◌≡◌, ℕ, Bool, List, ◌++◌, length, subst, arith}
-use Rattle.std.proofs.lemmas.Bool.Decides.{nat_tests}
-use Rattle.std.proofs.lemmas.List.{nil_from_length}
+use Rattle.sabr_plan.proofs.Names.{◌≡◌, ℕ, Bool, List, ◌++◌, length, subst, arith, nat_tests, nil_from_length}
 use Rattle.sabr_plan.specs.Feeding.{Fed, outcome}
 use Rattle.sabr_plan.proofs.Outcomes.{still_lf_at_end}
 use Rattle.sabr_plan.proofs.Held.{parted_on, line_refused, line_read, line_grows, rest_held}
 use Rattle.sabr_plan.proofs.feed.PlanFeed.feed.Goals as goal
-
-only_tail : (first s : Fed) (piece rest tail : List ℕ) → length rest ≡ 0 → ((more : List ℕ) (ended : Bool) → outcome first (piece ++ more) ended ≡ outcome s ((rest ++ tail) ++ more) ended) → (more : List ℕ) (ended : Bool) → outcome first (piece ++ more) ended ≡ outcome s (tail ++ more) ended
-only_tail first s piece rest tail none same = subst (λ t. (more : List ℕ) (ended : Bool) → outcome first (piece ++ more) ended ≡ outcome s ((t ++ tail) ++ more) ended) (nil_from_length rest none) same
 
 pub returns-in-Err-clause-fed : goal.returns-in-Err-clause-fed
 returns-in-Err-clause-fed g c =
@@ -42,4 +37,5 @@ returns-clause-fed g c =
     let rest = c.loop-rest.rest.now in
     let tail = c.ended_lines.result.1.now in
     let none : length rest ≡ 0 = grind (arith, nat_tests) in
-    rest_held c.args.self.now c.args.piece.now c.loop-rest.self tail (only_tail c.args.self.now c.loop-rest.self c.args.piece.now rest tail none c.loop-rest.invariant.same) c.hold.ensures.held c.hold.new.self c.hold.result c.ended_lines.ensures.line c.hold.ensures.ok c.hold.ensures.err
+    let same : (more : List ℕ) (ended : Bool) → outcome c.args.self.now (c.args.piece.now ++ more) ended ≡ outcome c.loop-rest.self (tail ++ more) ended = rw (nil_from_length rest none) at c.loop-rest.invariant.same in
+    rest_held c.args.self.now c.args.piece.now c.loop-rest.self tail same c.hold.ensures.held c.hold.new.self c.hold.result c.ended_lines.ensures.line c.hold.ensures.ok c.hold.ensures.err

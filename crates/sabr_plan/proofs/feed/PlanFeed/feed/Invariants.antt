@@ -1,4 +1,4 @@
-use Rattle.std.proofs.Common.{◌≡◌, ◌+◌, ◌-◌, ◌<◌, ◌≤◌, get_or, List, ℕ, Bool, ◌++◌, length}
+use Rattle.sabr_plan.proofs.Names.{◌≡◌, ◌+◌, ◌-◌, ◌<◌, ◌≤◌, get_or, List, ℕ, Bool, ◌++◌, length}
 use Rattle.sabr_plan.specs.Feeding.{outcome, weight}
 use Rattle.sabr_plan.proofs.feed.PlanFeed.feed.Given as goal
 

@@ -1,7 +1,5 @@
 -- The text ends after what is held.
-use Rattle.std.proofs.Common.{◌≡◌, ◌+◌, sym, ap, ◌∙◌, true, inl, inr, [], Ok, Err, ◌⊎◌}
-use Rattle.std.proofs.lemmas.Result.{err_from_is_err_and}
-use Rattle.sabr_model.specs.plan.Plan.{ContactPlan}
+use Rattle.sabr_plan.proofs.Names.{◌≡◌, ◌+◌, sym, ap, ◌∙◌, true, inl, inr, [], Ok, Err, ◌⊎◌, err_from_is_err_and, ContactPlan}
 use Rattle.sabr_plan.specs.declared.fault.PlanFault.{PlanFault}
 use Rattle.sabr_plan.specs.declared.fault.PlanKind.TheVariants as kind
 use Rattle.sabr_plan.specs.Steps.{given_as}

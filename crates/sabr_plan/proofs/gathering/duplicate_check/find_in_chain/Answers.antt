@@ -1,4 +1,4 @@
-use Rattle.std.proofs.Common.{sym, ◌∙◌, arith}
+use Rattle.sabr_plan.proofs.Names.{sym, ◌∙◌, arith}
 use Rattle.sabr_plan.proofs.ChainedPlaces.{walk_ends, walk_on}
 use Rattle.sabr_plan.proofs.gathering.duplicate_check.find_in_chain.Goals as goal
 

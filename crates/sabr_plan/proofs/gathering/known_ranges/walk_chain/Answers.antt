@@ -1,4 +1,4 @@
-use Rattle.std.proofs.Common.{ap, not, sym, ◌∙◌, arith}
+use Rattle.sabr_plan.proofs.Names.{ap, not, sym, ◌∙◌, arith}
 use Rattle.sabr_plan.proofs.ChainedPlaces.{walk_ends, walk_on}
 use Rattle.sabr_plan.proofs.gathering.known_ranges.walk_chain.Goals as goal
 

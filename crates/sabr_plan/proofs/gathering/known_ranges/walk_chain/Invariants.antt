@@ -1,5 +1,4 @@
-use Rattle.sabr_model.specs.declared.contact.Range.{Range}
-use Rattle.sabr_model.specs.plan.Plan.{overlap}
+use Rattle.sabr_plan.proofs.Names.{Range, overlap}
 use Rattle.sabr_plan.specs.Gathering.{range_bucket}
 use Rattle.sabr_plan.proofs.ChainedPlaces.{IsWalked}
 use Rattle.sabr_plan.proofs.gathering.known_ranges.walk_chain.Given as goal

@@ -1,6 +1,4 @@
-use Rattle.std.proofs.Common.{◌≡◌, ◌∙◌, ◌+◌, ◌-◌, get_or, map, drop, ap, arith}
-use Rattle.std.specs.BTreeMap.{insert_entry}
-use Rattle.sabr_model.specs.Order.{by_key}
+use Rattle.sabr_plan.proofs.Names.{◌≡◌, ◌∙◌, ◌+◌, ◌-◌, get_or, map, drop, ap, arith, insert_entry, by_key}
 use Rattle.sabr_plan.specs.Gathering.{keyed}
 use Rattle.sabr_plan.proofs.SortedRanges.{no_range}
 use Rattle.sabr_plan.proofs.RangeTrees.{tree_of, planted_more}

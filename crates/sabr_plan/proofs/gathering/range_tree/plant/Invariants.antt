@@ -1,4 +1,4 @@
-use Rattle.std.proofs.Common.{◌≡◌, ◌≤◌, length, drop, map}
+use Rattle.sabr_plan.proofs.Names.{◌≡◌, ◌≤◌, length, drop, map}
 use Rattle.sabr_plan.specs.Gathering.{keyed}
 use Rattle.sabr_plan.proofs.gathering.range_tree.plant.Given as goal
 

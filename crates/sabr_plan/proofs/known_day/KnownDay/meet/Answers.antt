@@ -1,5 +1,5 @@
 -- The bytes of a time begin with those of its day.
-use Rattle.std.proofs.Common.{arith}
+use Rattle.sabr_plan.proofs.Names.{arith}
 use Rattle.core.proofs.dec2flt.Eight.{eight_at}
 use Rattle.sabr_plan.proofs.Spelling.{date_of, date_bytes}
 use Rattle.sabr_plan.proofs.known_day.KnownDay.meet.Goals as goal

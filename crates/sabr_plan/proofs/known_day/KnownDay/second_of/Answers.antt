@@ -1,6 +1,5 @@
 -- The date is known, and the rest is a second of the day.
-use Rattle.std.proofs.Common.{◌≡◌, ◌++◌, ◌∷◌, [], take, sym, ap, ◌∙◌, arith}
-use lib.Lanes.{digits_l}
+use Rattle.sabr_plan.proofs.Names.{◌≡◌, ◌++◌, ◌∷◌, [], take, sym, ap, ◌∙◌, arith, digits_l}
 use Rattle.core.proofs.dec2flt.Eight.{eight_at}
 use Rattle.sabr_plan.proofs.Spelling.{known_text, date_bytes}
 use Rattle.sabr_plan.proofs.known_day.KnownDay.second_of.Goals as goal

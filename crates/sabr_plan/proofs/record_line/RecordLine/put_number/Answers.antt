@@ -1,5 +1,5 @@
 -- A number has at most 20 digits.
-use Rattle.std.proofs.Common.{◌≡◌, ℕ, ◌<◌, ◌≤◌, ◌+◌, ◌++◌, ◌∙◌, List, length, decimal, ap, arith, length-append, length-drop}
+use Rattle.sabr_plan.proofs.Names.{◌≡◌, ℕ, ◌<◌, ◌≤◌, ◌+◌, ◌++◌, ◌∙◌, List, length, decimal, ap, arith, length-append, length-drop}
 use Rattle.std.proofs.lemmas.Fmt.{length-decimal-le}
 use Rattle.sabr_plan.proofs.record_line.RecordLine.put_number.Goals as goal
 

@@ -1,5 +1,5 @@
 -- The bucket of each element is what the call returns for it.
-use Rattle.std.proofs.Common.{refl, ap, ◌∙◌, arith}
+use Rattle.sabr_plan.proofs.Names.{refl, ap, ◌∙◌, arith}
 use Rattle.std.proofs.lemmas.Fn.{says_at}
 use Rattle.sabr_plan.proofs.ChainedPlaces.{bucket_at}
 use Rattle.sabr_plan.proofs.gathering.chains.Chains.add_all.Goals as goal

@@ -1,4 +1,4 @@
-use Rattle.std.proofs.Common.{◌≡◌, ℕ, ◌≤◌, length, map, ◌-◌}
+use Rattle.sabr_plan.proofs.Names.{◌≡◌, ℕ, ◌≤◌, length, map, ◌-◌}
 use Rattle.std.specs.Fn.{FnReturnsAt}
 use Rattle.sabr_plan.specs.Gathering.{AreChained}
 use Rattle.sabr_plan.proofs.gathering.chains.Chains.add_all.Given as goal

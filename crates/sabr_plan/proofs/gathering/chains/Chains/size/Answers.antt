@@ -1,5 +1,4 @@
-use Rattle.std.proofs.Common.{arith}
-use Rattle.std.proofs.lemmas.Grind.{common_steps}
+use Rattle.sabr_plan.proofs.Names.{arith, common_steps}
 use Rattle.sabr_plan.proofs.ChainedPlaces.{chained_told}
 use Rattle.sabr_plan.proofs.gathering.chains.Chains.size.Goals as goal
 

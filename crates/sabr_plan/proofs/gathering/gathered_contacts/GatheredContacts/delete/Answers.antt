@@ -1,12 +1,7 @@
 -- The contact ends at its start, and its opening stays in its chain.
-use Rattle.std.proofs.Common.{true, false, map, ◌≡◌, ◌∙◌, get_or, set, not, refl, sym, ap, subst}
+use Rattle.sabr_plan.proofs.Names.{true, false, map, ◌≡◌, ◌∙◌, get_or, set, not, refl, sym, ap, subst, Some, None, ok_or, Contact, Opening, IsPlan, opens, IsPlan-fewer_contacts}
 use Rattle.std.proofs.Math.Seq.{map-set_same}
-use Rattle.std.specs.Prelude.{Some, None, ok_or}
-use Rattle.sabr_model.specs.declared.contact.Contact.{Contact}
-use Rattle.sabr_model.specs.declared.opening.Opening.{Opening}
 use Rattle.sabr_model.specs.declared.fault.AddFault.TheVariants.{NothingToDelete}
-use Rattle.sabr_model.specs.plan.Plan.{IsPlan, opens}
-use Rattle.sabr_model.proofs.PlanLemmas.Deletions.{IsPlan-fewer_contacts}
 use Rattle.sabr_plan.specs.Gathering.{AreChained, plan_of_contacts, standing, contact_bucket, KnowsSome, IsFound, IsTreed}
 use Rattle.sabr_plan.proofs.GatheredOpenings.{ended, no_contact, deletes, gone, none_found, open_by_set, there}
 use Rattle.sabr_plan.proofs.TreedOpenings.{treed_set}

@@ -1,7 +1,4 @@
-use Rattle.std.proofs.Common.{◌≡◌, ◌∙◌, ap, arith}
-use Rattle.std.specs.List.{list_any}
-use Rattle.sabr_model.specs.declared.opening.Opening.{Opening}
-use Rattle.sabr_model.specs.plan.Plan.{ContactPlan, opens}
+use Rattle.sabr_plan.proofs.Names.{◌≡◌, ◌∙◌, ap, arith, list_any, Opening, ContactPlan, opens}
 use Rattle.sabr_plan.specs.Gathering.{stands_at}
 use Rattle.sabr_plan.proofs.GatheredOpenings.{any_standing, by_pass, found_any}
 use Rattle.sabr_plan.proofs.gathering.gathered_contacts.GatheredContacts.fault.Goals as goal

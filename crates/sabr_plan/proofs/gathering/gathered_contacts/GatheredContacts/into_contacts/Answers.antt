@@ -1,6 +1,5 @@
-use Rattle.std.proofs.Common.{◌∙◌, ap, sym, rules}
+use Rattle.sabr_plan.proofs.Names.{◌∙◌, ap, sym, rules, ContactPlan}
 use Rattle.std.proofs.lemmas.Fn.{filter_same}
-use Rattle.sabr_model.specs.plan.Plan.{ContactPlan}
 use Rattle.sabr_plan.specs.Gathering.{stands}
 use Rattle.sabr_plan.proofs.gathering.gathered_contacts.GatheredContacts.into_contacts.Goals.{then-has_deleted, else-has_deleted}
 use Rattle.sabr_plan.proofs.gathering.gathered_contacts.GatheredContacts.into_contacts.Goals as goal

@@ -1,5 +1,4 @@
-use Rattle.std.proofs.Common.{[], refl}
-use Rattle.sabr_model.proofs.PlanLemmas.ContactLemmas.{IsPlan-empty}
+use Rattle.sabr_plan.proofs.Names.{[], refl, IsPlan-empty}
 use Rattle.sabr_plan.proofs.ChainedPlaces.{chained_none}
 use Rattle.sabr_plan.proofs.TreedOpenings.{treed_none}
 use Rattle.sabr_plan.proofs.gathering.gathered_contacts.GatheredContacts.new.Goals as goal

@@ -1,5 +1,5 @@
 -- A range that begins after all others end overlaps none. Else it is looked for along a chain.
-use Rattle.std.proofs.Common.{◌∙◌, sym}
+use Rattle.sabr_plan.proofs.Names.{◌∙◌, sym}
 use Rattle.sabr_plan.proofs.SortedRanges.{later_end, overlaps_none}
 use Rattle.sabr_plan.proofs.gathering.known_ranges.KnownRanges.overlaps.Goals as goal
 

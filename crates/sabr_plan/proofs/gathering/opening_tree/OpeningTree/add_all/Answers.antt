@@ -1,5 +1,4 @@
-use Rattle.std.proofs.Common.{◌<◌, length, arith}
-use Rattle.std.proofs.lemmas.Bool.{lt-ltb, le-ltb}
+use Rattle.sabr_plan.proofs.Names.{◌<◌, length, arith, lt-ltb, le-ltb}
 use Rattle.sabr_plan.proofs.TreedOpenings.{treed_skip, treed_more}
 use Rattle.sabr_plan.proofs.gathering.opening_tree.OpeningTree.add_all.Goals.{then-contact+in-Ok, else-contact}
 use Rattle.sabr_plan.proofs.gathering.opening_tree.OpeningTree.add_all.Goals as goal

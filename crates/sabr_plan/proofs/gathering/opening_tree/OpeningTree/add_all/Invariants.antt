@@ -1,4 +1,4 @@
-use Rattle.std.proofs.Common.{length, ◌-◌}
+use Rattle.sabr_plan.proofs.Names.{length, ◌-◌}
 use Rattle.sabr_plan.specs.Gathering.{IsTreed}
 use Rattle.sabr_plan.proofs.gathering.opening_tree.OpeningTree.add_all.Given as goal
 

@@ -1,5 +1,5 @@
 -- The index in the tree is that of the contact that stands, if one does.
-use Rattle.std.proofs.Common.{◌∙◌, sym, arith}
+use Rattle.sabr_plan.proofs.Names.{◌∙◌, sym, arith}
 use Rattle.sabr_plan.proofs.TreedOpenings.{nothing_there, another_there}
 use Rattle.sabr_plan.proofs.gathering.opening_tree.OpeningTree.find.Goals.{else-index-contacts-via-then-index-contacts+else-stands_at, else-index-contacts-via-else-index-contacts}
 use Rattle.sabr_plan.proofs.gathering.opening_tree.OpeningTree.find.Goals as goal

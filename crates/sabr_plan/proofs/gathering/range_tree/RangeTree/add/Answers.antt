@@ -1,5 +1,5 @@
 -- A range that isn't refused goes to its key.
-use Rattle.std.proofs.Common.{◌∙◌, sym, arith}
+use Rattle.sabr_plan.proofs.Names.{◌∙◌, sym, arith}
 use Rattle.sabr_plan.proofs.RangeTrees.{tree_more}
 use Rattle.sabr_plan.proofs.gathering.range_tree.RangeTree.add.Goals as goal
 

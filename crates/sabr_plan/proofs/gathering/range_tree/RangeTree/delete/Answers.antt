@@ -1,7 +1,5 @@
 -- The range is found by its key, and the tree has the others.
-use Rattle.std.proofs.Common.{◌∙◌, ap, filter, not}
-use Rattle.sabr_model.specs.declared.contact.Range.{Range}
-use Rattle.sabr_model.specs.plan.Adding.{begins}
+use Rattle.sabr_plan.proofs.Names.{◌∙◌, ap, filter, not, Range, begins}
 use Rattle.sabr_plan.proofs.RangeTrees.{tree_less}
 use Rattle.sabr_plan.proofs.gathering.range_tree.RangeTree.delete.Goals.{in-Some, in-None}
 use Rattle.sabr_plan.proofs.gathering.range_tree.RangeTree.delete.Goals as goal

@@ -1,9 +1,5 @@
 -- The last range that begins before the end overlaps, or none does.
-use Rattle.std.proofs.Common.{◌∙◌, sym, ap}
-use Rattle.std.specs.List.{list_any}
-use Rattle.std.specs.BTreeMap.{values}
-use Rattle.sabr_model.specs.plan.Plan.{overlap}
-use Rattle.sabr_model.proofs.PlanLemmas.RangeOrder.{range_list}
+use Rattle.sabr_plan.proofs.Names.{◌∙◌, sym, ap, list_any, values, overlap, range_list}
 use Rattle.sabr_plan.specs.Gathering.{plan_of_ranges}
 use Rattle.sabr_plan.proofs.RangeTrees.{overlaps_no_range, overlaps_last}
 use Rattle.sabr_plan.proofs.gathering.range_tree.RangeTree.overlaps.Goals as goal
