@@ -9,27 +9,17 @@ pub returns-in-Err-clause-fed : goal.returns-in-Err-clause-fed
 returns-in-Err-clause-fed g c =
     let h = c.feed_line-ended.ensures in
     let e = rw c.in-Err.is at h.ended in
-    let rest = c.loop-rest.rest.now in
-    let tail = c.ended_lines.result.1.now in
-    let line = c.feed_line-ended.result.0.now in
-    let behind = c.feed_line-ended.result.1.now in
-    rw (c.fault.ensures, e.refused) (line_refused c.args.self.now c.args.piece.now c.loop-rest.self (rest ++ tail) c.loop-rest.invariant.same e.one line (behind ++ tail) h.line (parted_on rest line behind tail h.parts) c.in-Err.kind e.value)
+    rw (c.fault.ensures, e.refused) (line_refused _ _ _ _ c.loop-rest.invariant.same e.one _ _ h.line (parted_on _ _ _ _ h.parts) c.in-Err.kind e.value)
 
 pub loop-rest-preserved : goal.loop-rest-preserved
 loop-rest-preserved g c =
     let h = c.feed_line-ended.ensures in
     let e = rw c.in_default.is at h.ended in
-    let rest = c.loop-rest.rest.now in
-    let tail = c.ended_lines.result.1.now in
-    let line = c.feed_line-ended.result.0.now in
-    let behind = c.feed_line-ended.result.1.now in
-    let cut = parted_on rest line behind tail h.parts in
-    let s = c.loop-rest.self in
-    let new = c.feed_line-ended.new.self in
+    let cut = parted_on _ _ _ c.ended_lines.result.1.now h.parts in
     record {
-      same = line_read c.args.self.now c.args.piece.now s (rest ++ tail) c.loop-rest.invariant.same e.one line (behind ++ tail) h.line cut new e.value e.rest.0 e.rest.1;
-      grows = line_grows c.args.self.now c.args.piece.now s (rest ++ tail) c.loop-rest.invariant.same e.one line (behind ++ tail) h.line cut new e.rest.0 e.rest.1 e.fits c.loop-rest.invariant.grows;
-      ended = still_lf_at_end rest line behind h.parts c.loop-rest.invariant.ended;
+      same = line_read _ _ _ _ c.loop-rest.invariant.same e.one _ _ h.line cut c.feed_line-ended.new.self e.value e.rest.0 e.rest.1;
+      grows = line_grows _ _ _ _ c.loop-rest.invariant.same e.one _ _ h.line cut c.feed_line-ended.new.self e.rest.0 e.rest.1 e.fits c.loop-rest.invariant.grows;
+      ended = still_lf_at_end _ _ _ h.parts c.loop-rest.invariant.ended;
     }
 
 pub returns-clause-fed : goal.returns-clause-fed
