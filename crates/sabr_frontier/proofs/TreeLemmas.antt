@@ -8,3 +8,4 @@ pub mod SoundSteps
 pub mod MergedIndex
 pub mod CutTrees
 pub mod Floors
+pub mod FoundNodes

@@ -18,16 +18,16 @@ use Rattle.sabr_frontier.specs.listing.State.{Member, PartState, State}
 use Rattle.sabr_frontier.specs.listing.Listing.{next_route, one_step, searches_for, searches_in}
 use Rattle.sabr_frontier.specs.tree.Searching.{Asked, best_for, steps_for, records_for}
 use Rattle.sabr_frontier.specs.tree.Best.{best_of}
-use Rattle.sabr_frontier.specs.tree.PageTrees.{AreCutBy, IsCutTree, ShowsCut, carries_before, count_before}
+use Rattle.sabr_frontier.specs.tree.PageTrees.{AreCutBy, IsCutTree, IsNextGiven, ShowsCut, carries_before, count_before}
 use Rattle.sabr_frontier.specs.tree.Shape.{Shape, numbers_of, part_at, route_at, shown}
 use Rattle.sabr_frontier.specs.tree.Sound.{IsTree}
-use Rattle.sabr_frontier.specs.tree.Giving.{IsNextGiven, divided_with, OfNode, fresh_after, wide_of, widened}
+use Rattle.sabr_frontier.specs.tree.Giving.{divided_with, OfNode, wide_of, widened}
 use Rattle.sabr_frontier.specs.tree.Winners.{CarriesNone, IsFirst, IsBestOf}
 use Rattle.sabr_frontier.proofs.ListingLemmas.ListMembers.{Member-map, Member-map_cases}
 use Rattle.sabr_frontier.proofs.TreeLemmas.CarryingNodes.{carried_at, mapped, next_is, route_there, searches_are}
-use Rattle.sabr_frontier.proofs.TreeLemmas.CutTrees.{answer_cut, cut_self, cut_sound, divided_cut, stands_in, still_before, IsBoundFor, at_most_one, carried_there, cut_weaken, least_same, none_same, bound_parts}
+use Rattle.sabr_frontier.proofs.TreeLemmas.CutTrees.{cut_self, cut_sound, given_cut, stands_in, still_before, IsBoundFor, carried_there, cut_weaken, least_same, none_same, bound_parts}
 use Rattle.sabr_frontier.proofs.TreeLemmas.SlotWinners.{carries_cases, standing_at}
-use Rattle.sabr_frontier.proofs.SessionLemmas.LeftSteps.{left_after, one_step_is}
+use Rattle.sabr_frontier.proofs.SessionLemmas.LeftSteps.{left_after, no_others, one_step_is}
 use Rattle.sabr_frontier.proofs.SessionLemmas.Pages.{counts_one, counts_stop, given_by, nothing_carried, nothing_given, steps_stop, counts_go, steps_go}
 use Rattle.std.proofs.lemmas.List.{drop_at}
 use Rattle.std.proofs.lemmas.List.Sums.{sum_by-cons}
@@ -38,12 +38,16 @@ use Rattle.sabr_frontier.specs.tree.Undo.{modify}
 use Rattle.sabr_frontier.proofs.GivingLemmas.KeptKeys.{all_up_to, carried-append, none_here, noted_up_to, one_at_most, one_up_to, up_to, up_to-append, up_to_length}
 use Rattle.sabr_frontier.proofs.TreeLemmas.ModifiedPlaces.{get_front, get_same, length-modify}
 
+-- they are all, or there are no more, and so many of the nodes carry routes
+abbrev pub AreAllOr : {A : Type 0} → ℕ → ℕ → ℕ → List (Node A) → Type 0
+AreAllOr few all k nodes = (few ≡ all) ⊎ ((few ≤ all) × (k ≤ length (carried_keys nodes)))
+
 -- giving the least route that a node of the tree carries is the step of the state, and leaves a tree of the state then
 pub record IsTurn {A : Type 0} (a : Asked) (k : ℕ) (s : State) (t v : Shape A) (step : GivenRoute) : Type 0 where
   pub next : List ℕ × State
   pub is : one_step a.plan.plan a.request s ≡ Some next
   pub leaves : v.leaves ≡ t.leaves ++ record_of a.plan.plan a.request next.0 ∷ []
-  pub searches : step.searches ≡ searches_for s next.0
+  pub searches : AreAllOr step.searches (searches_for s next.0) k v.nodes
   pub then : ShowsCut a k next.1 v
 
 -- a sound tree carries all
@@ -68,44 +72,75 @@ module _ {A : Type 0} (p : ContactPlan) (r : RouteRequest) (k : ℕ) (u t : Shap
   stands_whole : slice_get u.nodes node.0 ≡ Some n
   stands_whole = stands_in (suc k) t.nodes u.nodes t.nodes h.nodes node n x stands carries
 
-pub cut_turn : {A : Type 0} (a : Asked) (o : Option Bound) (k : ℕ) (s : State) (t v : Shape A) (step : GivenRoute) → IsPlan a.plan.plan → ShowsCut a (suc k) s t → IsBoundFor o (suc k) t.nodes → IsNextGiven (best_for a o) t v step → IsTurn a k s t v step
-cut_turn a o k s t v step good h bound taken =
+pub cut_turn : {A : Type 0} (a : Asked) (o : Option Bound) (k : ℕ) (s : State) (t v : Shape A) (step : GivenRoute) → IsPlan a.plan.plan → ShowsCut a (suc k) s t → IsBoundFor o (suc k) t.nodes → IsNextGiven (best_for a o) (Some k) t v step → IsTurn a k s t v step
+cut_turn {A} a o k s t v step good h bound taken =
     let p = a.plan.plan in
     let r = a.request in
     let u = h.0 in
     let node = step.node in
+    let n = taken.part in
     let x = taken.route in
-    let stands = stands_whole p r k u t h.2 node taken.part x taken.stands taken.carries taken.least in
-    let g = given_by p r good u h.2.sound node taken.part x stands taken.carries (least_whole p r k u t h.2 node taken.part x taken.stands taken.carries taken.least) in
-    let D = divided_with (best_of p r) u node taken.part x in
-    let C = divided_with (best_for a o) t node taken.part x in
-    let cut : IsCutTree p r k D C = divided_cut p r good k u t h.2 (best_for a o) node taken.part x taken.stands taken.carries
-    (λ q X. answer_cut k C.nodes p r o q X (λ b y e above. still_before k (best_for a o) t node taken.part x y (bound b y e above))) in
+    let stands = stands_whole p r k u t h.2 node n x taken.stands taken.carries taken.least in
+    let g = given_by p r good u h.2.sound node n x stands taken.carries (least_whole p r k u t h.2 node n x taken.stands taken.carries taken.least) in
+    let D = divided_with (best_of p r) u node n x in
+    let found = best_for a o (take n.length x.contacts) (wide_of n x.contacts) in
+    let cut = given_cut p r good k u t h.2 node n x taken.stands taken.carries o (Some k) taken.new (length x.contacts - n.length) step.searches taken.found
+    (λ b y e above. still_before t node n x y found taken.new k (bound b y e above)) (λ m e. (let same : k ≡ m = cc in omega (arith, same))) in
+    let all : length x.contacts - n.length ≡ searches_for s x.contacts = sym (ap (λ z. searches_for z x.contacts) h.1 ∙ searches_are p r u h.2.sound node n x stands taken.carries) in
+    let nodes = ap (λ (z : Shape A). length (carried_keys z.nodes)) taken.shape ∙ ap length (carried-append (modify (widened (wide_of n x.contacts) found) t.nodes node.0) taken.new) in
     record {
       next = (x.contacts, shown D);
       is = ap (one_step p r) h.1 ∙ g.stepped;
-      leaves = ap (λ (z : Shape _). z.leaves) taken.shape ∙ ap (λ (z : RouteRecord). t.leaves ++ z ∷ []) g.told;
-      searches = taken.counted ∙ sym (ap (λ z. searches_for z x.contacts) h.1 ∙ searches_are p r u h.2.sound node taken.part x stands taken.carries);
+      leaves = ap (λ (z : Shape A). z.leaves) taken.shape ∙ ap (λ (z : RouteRecord). t.leaves ++ z ∷ []) g.told;
+      searches = elim taken.found [
+        | inl e ↦ inl (e.1 ∙ all)
+        | inr w ↦ inr (omega (arith, w.1, all), omega (arith, w.0.many, nodes, length-append (carried_keys (modify (widened (wide_of n x.contacts) found) t.nodes node.0)) (carried_keys taken.new)))
+      ];
       then = (D, refl, subst (IsCutTree p r k D) (sym taken.shape) cut);
     }
 
 -- ---- one step more
 
-count_none : {A : Type 0} (x : RouteRecord) (nodes : List (Node A)) → some_carry nodes ≡ false → count_before x nodes ≡ 0
-count_none x [] e = refl
-count_none x (n ∷ nodes) e = elim n.route as (λ o. (is_some o || some_carry nodes) ≡ false → cond (option_map_or (λ y. is_lt (by_record y x)) o false) (suc (count_before x nodes)) (count_before x nodes) ≡ 0) [
-  | None ↦ λ f. count_none x nodes f
+one_key : (o : Option RouteRecord) → length (keys_of o) ≤ 1
+one_key None = omega arith
+one_key (Some x) = omega arith
+
+carried_none : {A : Type 0} (nodes : List (Node A)) → some_carry nodes ≡ false → length (carried_keys nodes) ≡ 0
+carried_none [] e = refl
+carried_none (n ∷ nodes) e = elim n.route as (λ o. (is_some o || some_carry nodes) ≡ false → length (keys_of o ++ carried_keys nodes) ≡ 0) [
+  | None ↦ λ f. carried_none nodes f
   | Some y ↦ λ f. absurd (true≢false f)
 ] e
 
--- a route that two nodes come before: one of them is another one
-count_others : {A : Type 0} (x : RouteRecord) (nodes : List (Node A)) (i : ℕ) → some_carry (take i nodes) ≡ false → some_carry (drop (suc i) nodes) ≡ false → count_before x nodes ≤ 1
-count_others x [] i e f = omega arith
-count_others x (n ∷ nodes) zero e f = omega (arith, at_most_one (carries_before x n) (count_before x nodes), count_none x nodes f)
-count_others x (n ∷ nodes) (suc i) e f = elim n.route as (λ o. (is_some o || some_carry (take i nodes)) ≡ false → cond (option_map_or (λ y. is_lt (by_record y x)) o false) (suc (count_before x nodes)) (count_before x nodes) ≤ 1) [
-  | None ↦ λ g. count_others x nodes i g f
+carried_others : {A : Type 0} (nodes : List (Node A)) (i : ℕ) → some_carry (take i nodes) ≡ false → some_carry (drop (suc i) nodes) ≡ false → length (carried_keys nodes) ≤ 1
+carried_others [] i e f = omega arith
+carried_others (n ∷ nodes) zero e f = omega (arith, one_key n.route, length-append (keys_of n.route) (carried_keys nodes), carried_none nodes f)
+carried_others (n ∷ nodes) (suc i) e f = elim n.route as (λ o. (is_some o || some_carry (take i nodes)) ≡ false → length (keys_of o ++ carried_keys nodes) ≤ 1) [
+  | None ↦ λ g. carried_others nodes i g f
   | Some y ↦ λ g. absurd (true≢false g)
 ] e
+
+-- of two nodes that carry routes one is another one
+others_two : {A : Type 0} (nodes : List (Node A)) (node : NodeId) → 2 ≤ length (carried_keys nodes) → others_carry nodes node ≡ true
+others_two nodes node l = elim (others_carry nodes node) as (λ b. others_carry nodes node ≡ b → b ≡ true) [
+  | true ↦ λ _. refl
+  | false ↦ λ e.
+      let i = node.0 in
+      let next : suc i ≡ i + 1 = omega arith in
+      let w = or_parts (some_carry (take i nodes)) (some_carry (drop (i + 1) nodes)) e in
+      let few = carried_others nodes i w.0 (ap (λ m. some_carry (drop m nodes)) next ∙ w.1) in
+      absurd (omega (arith, few, l))
+] refl
+
+-- no fewer nodes carry a route than carry one before x
+count_carried : {A : Type 0} (x : RouteRecord) (nodes : List (Node A)) → count_before x nodes ≤ length (carried_keys nodes)
+count_carried x [] = omega arith
+count_carried x (n ∷ nodes) =
+    let rest = count_carried x nodes in
+    elim n.route as (λ o. cond (option_map_or (λ y. is_lt (by_record y x)) o false) (suc (count_before x nodes)) (count_before x nodes) ≤ length (keys_of o ++ carried_keys nodes)) [
+      | None ↦ rest
+      | Some y ↦ elim (is_lt (by_record y x)) as (λ b. cond b (suc (count_before x nodes)) (count_before x nodes) ≤ suc (length (carried_keys nodes))) [ true ↦ omega (arith, rest) | false ↦ omega (arith, rest) ]
+    ]
 
 module _ {A : Type 0} (k : ℕ) (all : List (Node A)) where
   cut_take : (i : ℕ) (us ts : List (Node A)) → AreCutBy k all us ts → AreCutBy k all (take i us) (take i ts)
@@ -154,17 +189,9 @@ module _ {A : Type 0} (k : ℕ) (all : List (Node A)) where
 others_same : {A : Type 0} (us ts : List (Node A)) (node : NodeId) → AreCutBy 2 ts us ts → others_carry ts node ≡ others_carry us node
 others_same us ts node h =
     let i = node.0 in
-    let next : suc i ≡ i + 1 = omega arith in
     let front = cut_take 2 ts i us ts h in
     let back = cut_drop 2 ts (i + 1) us ts h in
-    let many : (x : RouteRecord) → 2 ≤ count_before x ts → others_carry ts node ≡ true =
-    λ x l. elim (others_carry ts node) as (λ b. others_carry ts node ≡ b → b ≡ true) [
-      | true ↦ λ _. refl
-      | false ↦ λ e.
-          let w = or_parts (some_carry (take i ts)) (some_carry (drop (i + 1) ts)) e in
-          let few = count_others x ts i w.0 (ap (λ m. some_carry (drop m ts)) next ∙ w.1) in
-          absurd (omega (arith, few, l))
-    ] refl in
+    let many : (x : RouteRecord) → 2 ≤ count_before x ts → others_carry ts node ≡ true = λ x l. others_two ts node (omega (arith, l, count_carried x ts)) in
     both_ways (others_carry ts node) (others_carry us node)
     (λ e. elim (or_cases (some_carry (take i ts)) (some_carry (drop (i + 1) ts)) e) [
       | inl a ↦ ap (λ b. b || some_carry (drop (i + 1) us)) (some_whole 2 ts (take i us) (take i ts) front a)
@@ -244,6 +271,16 @@ pub cut_looks : {A : Type 0} (a : Asked) (s : State) (t : Shape A) → IsPlan a.
 cut_looks a s t good h looks has =
     subst (HasLooks looks a.plan.plan a.request) (sym h.1) (λ x next only. has x (same_route a good h.0 t h.2 ∙ next) (no_other a good h.0 t h.2 x only))
 
+-- where two routes are carried at least, there is another one than the next
+pub two_looks : {A : Type 0} (p : ContactPlan) (r : RouteRequest) → IsPlan p → (t : Shape A) → IsTree p r t → 2 ≤ length (carried_keys t.nodes) → (looks : ℕ) → HasLooks looks p r (shown t)
+two_looks p r good t is two looks x next only = absurd (elim (carries_cases t.nodes) [
+  | inl none ↦ let ended = nothing_carried p r good t is none in cc
+  | inr w ↦
+      let at = standing_at t.nodes w.1 w.0 w.2.carries in
+      let same : w.0.contacts ≡ x = let both : Some w.0.contacts ≡ Some x = sym (next_is p r t is w.1 at.0 w.0 at.1 at.2 w.2.least) ∙ next in cc in
+      true≢false (sym (others_two t.nodes w.1 two) ∙ no_others p r t is w.1 at.0 w.0 at.1 at.2 (subst (CarriesNoOther (shown t)) (sym same) only))
+])
+
 pub cut_next : {A : Type 0} (a : Asked) (s : State) (t : Shape A) → IsPlan a.plan.plan → ShowsCut a 2 s t → IsSameStep a s t
 cut_next a s t good h = subst (λ z. IsSameStep a z t) (sym h.1) (same_step a good h.0 t h.2)
 
@@ -319,6 +356,12 @@ up_to_one : (b : ℕ) (o : Option RouteRecord) → up_to b (keys_of o) ≤ 1
 up_to_one b None = omega arith
 up_to_one b (Some x) = up_to_length b (keys_of (Some x))
 
+-- a node that changes is one fewer that carries a route at the most
+carried_modify : {A : Type 0} (f : Node A → Node A) (nodes : List (Node A)) (i : ℕ) → length (carried_keys nodes) ≤ suc (length (carried_keys (modify f nodes i)))
+carried_modify f [] i = omega arith
+carried_modify f (n ∷ nodes) zero = omega (arith, one_key n.route, length-append (keys_of n.route) (carried_keys nodes), length-append (keys_of (f n).route) (carried_keys nodes))
+carried_modify f (n ∷ nodes) (suc i) = omega (arith, carried_modify f nodes i, length-append (keys_of n.route) (carried_keys nodes), length-append (keys_of n.route) (carried_keys (modify f nodes i)))
+
 module _ {A : Type 0} (b : ℕ) where
   -- a node that changes carries another route than one of theirs
   changed_up_to : (f : Node A → Node A) (nodes : List (Node A)) (i : ℕ) (n : Node A) → slice_get nodes i ≡ Some n
@@ -331,12 +374,12 @@ module _ {A : Type 0} (b : ℕ) where
   changed_up_to f (m ∷ nodes) (suc i) n e =
       omega (arith, changed_up_to f nodes i n e, up_to-append b (keys_of m.route) (carried_keys nodes), up_to-append b (keys_of m.route) (carried_keys (modify f nodes i)))
 
-module _ {A : Type 0} {best : List ℕ → List ℕ → Option RouteRecord} {t u : Shape A} {step : GivenRoute} (w : IsNextGiven best t u step) where
+module _ {A : Type 0} {best : List ℕ → List ℕ → Option RouteRecord} {needed : Option ℕ} {t u : Shape A} {step : GivenRoute} (w : IsNextGiven best needed t u step) where
   abbrev change : Node A → Node A
   change = widened (wide_of w.part w.route.contacts) (best (take w.part.length w.route.contacts) (wide_of w.part w.route.contacts))
 
   abbrev fresh : List (Node A)
-  fresh = fresh_after best (length t.leaves) w.part w.route.contacts
+  fresh = w.new
 
   nodes_are : u.nodes ≡ modify change t.nodes step.node.0 ++ fresh
   nodes_are = ap (λ (z : Shape A). z.nodes) w.shape
@@ -348,6 +391,11 @@ module _ {A : Type 0} {best : List ℕ → List ℕ → Option RouteRecord} {t u
   step_within =
       let all = ap (length {A = Node A}) nodes_are ∙ length-append (modify change t.nodes step.node.0) fresh in
       (omega (arith, all, long, slice_get_within t.nodes step.node.0 w.part w.stands), omega (arith, all, w.former, long))
+
+  carried_then : length (carried_keys t.nodes) ≤ suc (length (carried_keys u.nodes))
+  carried_then =
+      let front = modify change t.nodes step.node.0 in
+      omega (arith, carried_modify change t.nodes step.node.0, ap (λ z. length (carried_keys z)) nodes_are ∙ ap length (carried-append front fresh), length-append (carried_keys front) (carried_keys fresh))
 
   module _ (old new : SeenKeys) (noted : OfNode u.nodes step.node (λ m. AreNoted old (keys_of m.route ++ carried_keys (drop step.first u.nodes)) new)) where
     -- what was noted
@@ -381,7 +429,8 @@ pub record IsCutWay {A : Type 0} (a : Asked) (s : State) (all : ℕ) (before : L
   pub routes : t.leaves ++ records_for a (steps_for a k state).0 ≡ before ++ records_for a (steps_for a all s).0
   pub reaches : (steps_for a k state).1 ≡ (steps_for a all s).1
   pub shows : ShowsCut a (suc (suc k)) state t
-  pub searches : calls + searches_in a.plan.plan a.request k state ≡ start + searches_in a.plan.plan a.request all s
+  pub begun : start ≤ calls
+  pub searches : AreAllOr (calls + searches_in a.plan.plan a.request k state) (start + searches_in a.plan.plan a.request all s) (k + 2) t.nodes
   pub few : k ≤ all
   pub most : keys.most ≡ all + 2
   pub kept : (b : ℕ) → up_to b keys.keys ≤ (all - k) + up_to b (carried_keys t.nodes)
@@ -393,7 +442,8 @@ way_first a all t calls none keys is new noted = record {
   routes = refl;
   reaches = refl;
   shows = cut_first a (suc (suc all)) t is;
-  searches = refl;
+  begun = omega arith;
+  searches = inl refl;
   few = omega arith;
   most = noted.most ∙ ap (λ (z : SeenKeys). z.most) new;
   kept = λ b. (let h = noted_up_to b none keys (carried_keys t.nodes) noted in let o : up_to b none.keys ≡ 0 = ap (λ (z : SeenKeys). up_to b z.keys) new in omega (arith, h, o));
@@ -401,7 +451,7 @@ way_first a all t calls none keys is new noted = record {
 
 -- the turn of the loop is that of the state
 module _ {A : Type 0} {a : Asked} (good : IsPlan a.plan.plan) {s : State} {all : ℕ} {before : List RouteRecord} {start : ℕ} (k : ℕ) {t : Shape A} {calls : ℕ} {keys : SeenKeys}
-    (way : IsCutWay a s all before start (suc k) t calls keys) (b : Option Bound) (bound : IsBoundOf keys b) {u : Shape A} {step : GivenRoute} (w : IsNextGiven (best_for a b) t u step) where
+    (way : IsCutWay a s all before start (suc k) t calls keys) (b : Option Bound) (bound : IsBoundOf keys b) {u : Shape A} {step : GivenRoute} (w : IsNextGiven (best_for a b) (Some (suc (suc k))) t u step) where
   pub turn_is : IsTurn a (suc (suc k)) way.state t u step
   turn_is =
       let few = way.few in
@@ -417,13 +467,20 @@ module _ {A : Type 0} {a : Asked} (good : IsPlan a.plan.plan) {s : State} {all :
       let counts = counts_go p r way.state next.1 next.0 k turn_is.is in
       let more = records_for a (steps_for a k next.1).0 in
       let few = way.few in
-      let sum = way.searches in
+      let carried = carried_then w in
       record {
         state = next.1;
         routes = ap (λ z. z ++ more) turn_is.leaves ∙ append_assoc t.leaves (record_of p r next.0 ∷ []) more ∙ ap (λ (z : List (List ℕ) × State). t.leaves ++ records_for a z.0) (sym go) ∙ way.routes;
         reaches = ap (λ (z : List (List ℕ) × State). z.1) (sym go) ∙ way.reaches;
         shows = turn_is.then;
-        searches = omega (arith, called, counts, sum, turn_is.searches);
+        begun = omega (arith, way.begun, called);
+        searches = elim way.searches [
+          | inl sum ↦ elim turn_is.searches [ inl e ↦ inl (omega (arith, called, counts, sum, e)) | inr e ↦ inr (omega (arith, called, counts, sum, e.0), omega (arith, e.1)) ]
+          | inr sum ↦ inr (
+            elim turn_is.searches [ inl e ↦ omega (arith, called, counts, sum.0, e) | inr e ↦ omega (arith, called, counts, sum.0, e.0) ],
+            omega (arith, sum.1, carried),
+          )
+        ];
         few = omega (arith, few);
         most = (then_noted w keys then noted).most ∙ way.most;
         kept = λ c. (let left : suc (all - suc k) ≡ all - k = omega (arith, few) in let h = kept_then w keys then noted c (all - suc k) (way.kept c) in omega (arith, left, h));

@@ -15,7 +15,8 @@ use Rattle.sabr_frontier.specs.tree.Shape.{Shape, numbers_of, shown, part_at}
 use Rattle.sabr_frontier.specs.tree.Undo.{CanUndoTimes, undone, undone_times, CanUndo, undone_by}
 use Rattle.sabr_frontier.specs.tree.Searching.{Asked, best_for}
 use Rattle.sabr_frontier.specs.tree.Best.{best_of}
-use Rattle.sabr_frontier.specs.tree.Giving.{IsNextGiven, fresh_nodes, divided_with}
+use Rattle.sabr_frontier.specs.tree.Giving.{fresh_nodes, divided_into, divided_with, wide_of}
+use Rattle.sabr_frontier.specs.tree.PageTrees.{IsNextGiven}
 use Rattle.sabr_frontier.specs.tree.Winners.{CarriesNone, CarriesSome, IsBestOf, IsNext}
 use Rattle.sabr_frontier.specs.tree.Sound.{IsTree}
 use Rattle.sabr_frontier.specs.session.Session.{IsSoundFor, IsSound, tree_before, former_of}
@@ -39,8 +40,8 @@ pub new_nodes : (A : Type 0) (best : List ℕ → List ℕ → Option RouteRecor
 new_nodes A best leaf s d l = omega (arith, length_fresh A best leaf (take (d + 1) s) (drop (d + 1) s), length-drop (d + 1) s)
 
 -- with the same question the searches answer the same routes
-pub given_same : {A : Type 0} {a b : Asked} {t u : Shape A} {step : GivenRoute} (o : Option Bound) → b ≡ a → IsNextGiven (best_for b o) t u step → IsNextGiven (best_for a o) t u step
-given_same {t = t} {u = u} {step = step} o same w = subst (λ (z : Asked). IsNextGiven (best_for z o) t u step) same w
+pub given_same : {A : Type 0} {a b : Asked} {t u : Shape A} {step : GivenRoute} (o : Option Bound) (needed : Option ℕ) → b ≡ a → IsNextGiven (best_for b o) needed t u step → IsNextGiven (best_for a o) needed t u step
+given_same {t = t} {u = u} {step = step} o needed same w = subst (λ (z : Asked). IsNextGiven (best_for z o) needed t u step) same w
 
 -- a step from one tree to another is the step of the state, and can be undone
 pub record IsGiven {A : Type 0} (p : ContactPlan) (r : RouteRequest) (t u : Shape A) : Type 0 where
@@ -72,10 +73,12 @@ module _ {A : Type 0} (p : ContactPlan) (r : RouteRequest) (good : IsPlan p) (t 
       can = can_undo p r good t is node n x stands carries;
     }
 
-  pub is_given : (u : Shape A) (step : GivenRoute) → IsNextGiven (best_of p r) t u step → (g : IsGiven p r t u) × (step.searches ≡ searches_for (shown t) g.route.contacts)
+  pub is_given : (u : Shape A) (step : GivenRoute) → IsNextGiven (best_of p r) None t u step → (g : IsGiven p r t u) × (step.searches ≡ searches_for (shown t) g.route.contacts)
   is_given u step w =
       let Q = λ (z : Shape A). (g : IsGiven p r t z) × (step.searches ≡ searches_for (shown t) g.route.contacts) in
-      subst Q (sym w.shape) (given_by step.node w.part w.route w.stands w.carries w.least, w.counted ∙ sym (searches_are p r t is step.node w.part w.route w.stands w.carries))
+      let s = w.route.contacts in
+      let shape = w.shape ∙ ap (divided_into t step.node w.part w.route (best_of p r (take w.part.length s) (wide_of w.part s))) w.found.0 in
+      subst Q (sym shape) (given_by step.node w.part w.route w.stands w.carries w.least, w.found.1 ∙ sym (searches_are p r t is step.node w.part w.route w.stands w.carries))
 
   -- where some node carries a route, a step can be made
   pub some_given : CarriesSome t.nodes → (u : Shape A) × IsGiven p r t u

@@ -13,7 +13,7 @@ use Rattle.sabr_frontier.specs.declared.tree.NodeId.{NodeId}
 use Rattle.sabr_frontier.specs.tree.Undo.{modify}
 use Rattle.sabr_frontier.specs.tree.Winners.{CarriesNone, IsFirst, route_at, route_of}
 use Rattle.sabr_frontier.proofs.ListingLemmas.ListMembers.{less_from_test, not_below, turned, Member-map, Member-map_cases}
-use Rattle.sabr_frontier.specs.tree.PageTrees.{AreCutBy, IsCutOf, carries_before, count_before, IsCutTree}
+use Rattle.sabr_frontier.specs.tree.PageTrees.{AreCutBy, AreFound, IsCutOf, carries_before, count_before, IsCutTree}
 use Rattle.sabr_model.specs.plan.Plan.{ContactPlan, IsPlan}
 use Rattle.sabr_model.specs.routes.Arrival.{RouteRequest}
 use Rattle.sabr_model.specs.routes.Route.{is_route, is_path, is_prefix}
@@ -26,8 +26,7 @@ use Rattle.sabr_frontier.specs.listing.Formed.{InOrder, IsClosed}
 use Rattle.sabr_frontier.specs.tree.Best.{best_of, best_up_to, up_to}
 use Rattle.sabr_frontier.specs.tree.Shape.{Shape, given_at, ids_from, part_at, part_of, prefix_of, shown, stands_before}
 use Rattle.sabr_frontier.specs.tree.Sound.{IsLent, IsTree}
-use Rattle.sabr_frontier.specs.tree.Giving.{divided_with, fresh_nodes, passing, wide_of, widened, with_block}
-use Rattle.sabr_frontier.proofs.TreeLemmas.ListFronts.{length_fresh}
+use Rattle.sabr_frontier.specs.tree.Giving.{divided_into, divided_with, fresh_after, fresh_nodes, passing, wide_of, widened, with_block}
 use Rattle.sabr_frontier.proofs.TreeLemmas.ModifiedPlaces.{Member_get, get_Member}
 use Rattle.sabr_frontier.proofs.TreeLemmas.SlotWinners.{standing_at}
 use Rattle.sabr_frontier.proofs.TreeLemmas.SoundSteps.{tree_divided}
@@ -334,22 +333,48 @@ module _ {A : Type 0} (k : ℕ) (all : List (Node A)) (best cut : List ℕ → L
     fresh_cut leaf (q ++ y ∷ []) rest,
   )
 
-  widened_cut : (q X wide : List ℕ) (n : Node A) → IsCutOf k all (widened wide (best q X) n) (widened wide (cut q X) n)
-  widened_cut q X wide n = elim (answers q X) [
-    | inl same ↦ inl (λ i. widened wide (same i) n)
-    | inr w ↦ inr (w.0, w.1, (λ i. widened wide (w.2 i) n), w.3)
-  ]
+module _ {A : Type 0} (k : ℕ) (all : List (Node A)) where
+  widened_cut : (found cut : Option RouteRecord) (wide : List ℕ) (n : Node A) → IsCutAnswer k all found cut → IsCutOf k all (widened wide found n) (widened wide cut n)
+  widened_cut found cut wide n (inl same) = inl (λ i. widened wide (same i) n)
+  widened_cut found cut wide n (inr w) = inr (w.0, w.1, (λ i. widened wide (w.2 i) n), w.3)
 
--- a route that many nodes come before has one fewer before it at the most
-pub still_before : {A : Type 0} (k : ℕ) (best : List ℕ → List ℕ → Option RouteRecord) (t : Shape A) (node : NodeId) (n : Node A) (x y : RouteRecord) → suc k ≤ count_before y t.nodes → k ≤ count_before y (divided_with best t node n x).nodes
-still_before {A} k best t node n x y l =
-    let s = x.contacts in
-    let f : Node A → Node A = widened (wide_of n s) (best (take n.length s) (wide_of n s)) in
-    let new : List (Node A) = fresh_nodes best (length t.leaves) (take (n.length + 1) s) (drop (n.length + 1) s) in
-    omega (arith, l, count-modify y f t.nodes node.0, count-append y (modify f t.nodes node.0) new)
+  -- what is cut of what is cut
+  cut_twice : (us vs ts : List (Node A)) → AreCutBy k all us vs → AreCutBy k all vs ts → AreCutBy k all us ts
+  cut_twice [] [] ts h g = g
+  cut_twice [] (v ∷ vs) ts h g = absurd h
+  cut_twice (u ∷ us) [] ts h g = absurd h
+  cut_twice (u ∷ us) (v ∷ vs) [] h g = absurd g
+  cut_twice (u ∷ us) (v ∷ vs) (t ∷ ts) h g = (
+    elim h.0 [
+      | inl same ↦ subst (λ z. IsCutOf k all z t) same g.0
+      | inr w ↦ inr (w.0, w.1, elim g.0 [ inl same ↦ same ∙ w.2 | inr z ↦ absurd (let none : v.route ≡ None = ap (λ (n : Node A). n.route) w.2 in let some = z.1 in cc) ], w.3)
+    ],
+    cut_twice us vs ts h.1 g.1,
+  )
+
+  -- what was found where not all is needed, among nodes that carry as much
+  cut_found : (needed : Option ℕ) (us ts : List (Node A)) (many searches : ℕ) → AreFound needed many us ts searches → ((m : ℕ) (x : RouteRecord) → needed ≡ Some m → m ≤ count_before x ts → k ≤ count_before x all) → AreCutBy k all us ts
+  cut_found None us ts many searches h f = subst (AreCutBy k all us) (sym h.0) (cut_self k all us)
+  cut_found (Some m) us ts many searches (inl h) f = subst (AreCutBy k all us) (sym h.0) (cut_self k all us)
+  cut_found (Some m) us ts many searches (inr h) f = cut_weaken m k ts all us ts (λ x. f m x refl) h.0.cut
+
+pub found_length : {A : Type 0} (needed : Option ℕ) (many : ℕ) (us ts : List (Node A)) (searches : ℕ) → AreFound needed many us ts searches → length ts ≡ length us
+found_length needed many us ts searches h = cut_length 0 ts us ts (cut_found 0 ts needed us ts many searches h (λ _ _ _ _. omega arith))
+
+module _ {A : Type 0} (t : Shape A) (node : NodeId) (n : Node A) (x y : RouteRecord) (found : Option RouteRecord) (new : List (Node A)) where
+  abbrev f : Node A → Node A
+  f = widened (wide_of n x.contacts) found
+
+  -- a route that many nodes come before has one fewer before it at the most
+  pub still_before : (k : ℕ) → suc k ≤ count_before y t.nodes → k ≤ count_before y (divided_into t node n x found new).nodes
+  still_before k l = omega (arith, l, count-modify y f t.nodes node.0, count-append y (modify f t.nodes node.0) new)
+
+  -- one that many new nodes come before
+  new_before : (k : ℕ) → k ≤ count_before y new → k ≤ count_before y (divided_into t node n x found new).nodes
+  new_before k l = omega (arith, l, count-append y (modify f t.nodes node.0) new)
 
 module _ {A : Type 0} (p : ContactPlan) (r : RouteRequest) (good : IsPlan p) (k : ℕ) (u : Shape A) (is : IsTree p r u) (ts : List (Node A)) (h : AreCutBy (suc k) ts u.nodes ts)
-    (cut : List ℕ → List ℕ → Option RouteRecord) (node : NodeId) (n : Node A) (x : RouteRecord) (stands : slice_get ts node.0 ≡ Some n) (carries : n.route ≡ Some x) where
+    (node : NodeId) (n : Node A) (x : RouteRecord) (stands : slice_get ts node.0 ≡ Some n) (carries : n.route ≡ Some x) (found : Option RouteRecord) (new : List (Node A)) where
   abbrev bare : Shape A
   bare = record u { nodes = ts }
 
@@ -357,7 +382,7 @@ module _ {A : Type 0} (p : ContactPlan) (r : RouteRequest) (good : IsPlan p) (k 
   D = divided_with (best_of p r) u node n x
 
   abbrev C : Shape A
-  C = divided_with cut bare node n x
+  C = divided_into bare node n x found new
 
   abbrev s : List ℕ
   s = x.contacts
@@ -365,8 +390,11 @@ module _ {A : Type 0} (p : ContactPlan) (r : RouteRequest) (good : IsPlan p) (k 
   abbrev q : List ℕ
   q = take (n.length + 1) s
 
-  abbrev rest : List ℕ
-  rest = drop (n.length + 1) s
+  abbrev wide : List ℕ
+  wide = wide_of n s
+
+  abbrev whole : List (Node A)
+  whole = fresh_after (best_of p r) (length u.leaves) n s
 
   stands_whole : slice_get u.nodes node.0 ≡ Some n
   stands_whole = stands_in (suc k) ts u.nodes ts h node n x stands carries
@@ -377,38 +405,32 @@ module _ {A : Type 0} (p : ContactPlan) (r : RouteRequest) (good : IsPlan p) (k 
   place_same : passing (stands_before u.leaves ts q) u.index ≡ passing (stands_before u.leaves u.nodes q) u.index
   place_same = λ i. passing (λ (id : NodeId). is_lt (by_numbers (cut_pair (suc k) ts u.leaves u.nodes ts h id.0 i).0 q)) u.index
 
-  many_same : length (fresh_nodes {A = A} cut (length u.leaves) q rest) ≡ length (fresh_nodes {A = A} (best_of p r) (length u.leaves) q rest)
-  many_same = length_fresh A cut (length u.leaves) q rest ∙ sym (length_fresh A (best_of p r) (length u.leaves) q rest)
+  module _ (here : IsCutAnswer k C.nodes (best_of p r (take n.length s) wide) found) (rest : AreCutBy k C.nodes whole new) where
+    but_nodes : C ≡ record D { nodes = C.nodes }
+    but_nodes = λ i. record {
+      nodes = C.nodes;
+      index = with_block (place_same i) (ids_from (long_then i) (cut_length k C.nodes whole new rest i)) u.index;
+      leaves = u.leaves ++ x ∷ [];
+      last = Some (length u.leaves);
+      journal = u.journal ++ record { node = node; nodes = long_then i; last = u.last } ∷ [];
+      is_searched = u.is_searched;
+    }
 
-  but_nodes : C ≡ record D { nodes = C.nodes }
-  but_nodes = λ i. record {
-    nodes = C.nodes;
-    index = with_block (place_same i) (ids_from (long_then i) (many_same i)) u.index;
-    leaves = u.leaves ++ x ∷ [];
-    last = Some (length u.leaves);
-    journal = u.journal ++ record { node = node; nodes = long_then i; last = u.last } ∷ [];
-    is_searched = u.is_searched;
-  }
-
-  module _ (answers : (q X : List ℕ) → IsCutAnswer k C.nodes (best_of p r q X) (cut q X)) where
-    abbrev wide : List ℕ
-    wide = wide_of n s
-
-    here_cut : (v w : Node A) → slice_get u.nodes node.0 ≡ Some v → slice_get ts node.0 ≡ Some w → IsCutOf k C.nodes (widened wide (best_of p r (take n.length s) wide) v) (widened wide (cut (take n.length s) wide) w)
+    here_cut : (v w : Node A) → slice_get u.nodes node.0 ≡ Some v → slice_get ts node.0 ≡ Some w → IsCutOf k C.nodes (widened wide (best_of p r (take n.length s) wide) v) (widened wide found w)
     here_cut v w a b =
         let first : n ≡ v = (let there = stands_whole in cc) in
         let second : n ≡ w = (let there = stands in cc) in
-        let both = widened_cut k C.nodes (best_of p r) cut answers (take n.length s) wide wide n in
-        subst (λ z. IsCutOf k C.nodes (widened wide (best_of p r (take n.length s) wide) v) (widened wide (cut (take n.length s) wide) z)) second
-        (subst (λ z. IsCutOf k C.nodes (widened wide (best_of p r (take n.length s) wide) z) (widened wide (cut (take n.length s) wide) n)) first both)
+        let both = widened_cut k C.nodes (best_of p r (take n.length s) wide) found wide n here in
+        subst (λ z. IsCutOf k C.nodes (widened wide (best_of p r (take n.length s) wide) v) (widened wide found z)) second
+        (subst (λ z. IsCutOf k C.nodes (widened wide (best_of p r (take n.length s) wide) z) (widened wide found n)) first both)
 
     nodes_cut : AreCutBy k C.nodes D.nodes C.nodes
     nodes_cut =
         let f = widened wide (best_of p r (take n.length s) wide) in
-        let g = widened wide (cut (take n.length s) wide) in
-        cut_append k C.nodes (modify f u.nodes node.0) (modify g ts node.0) (fresh_nodes (best_of p r) (length u.leaves) q rest) (fresh_nodes cut (length u.leaves) q rest)
-        (cut_modify k C.nodes u.nodes ts f g node.0 (cut_weaken (suc k) k ts C.nodes u.nodes ts (λ y. still_before k cut bare node n x y) h) here_cut)
-        (fresh_cut k C.nodes (best_of p r) cut answers (length u.leaves) q rest)
+        let g = widened wide found in
+        cut_append k C.nodes (modify f u.nodes node.0) (modify g ts node.0) whole new
+        (cut_modify k C.nodes u.nodes ts f g node.0 (cut_weaken (suc k) k ts C.nodes u.nodes ts (λ y. still_before bare node n x y found new k) h) here_cut)
+        rest
 
     cut_then : IsCutTree p r k D C
     cut_then = record {
@@ -417,18 +439,35 @@ module _ {A : Type 0} (p : ContactPlan) (r : RouteRequest) (good : IsPlan p) (k 
       same = but_nodes;
     }
 
--- a tree whose routes that aren't carried come after k + 1 others, is then one whose such routes come after k
-pub divided_cut : {A : Type 0} (p : ContactPlan) (r : RouteRequest) (good : IsPlan p) (k : ℕ) (u t : Shape A) → IsCutTree p r (suc k) u t → (cut : List ℕ → List ℕ → Option RouteRecord) (node : NodeId) (n : Node A) (x : RouteRecord)
-    → slice_get t.nodes node.0 ≡ Some n → n.route ≡ Some x → ((q X : List ℕ) → IsCutAnswer k (divided_with cut t node n x).nodes (best_of p r q X) (cut q X)) → IsCutTree p r k (divided_with (best_of p r) u node n x) (divided_with cut t node n x)
-divided_cut {A} p r good k u t h cut node n x stands carries answers =
-    let Answers = λ (z : Shape A). (q X : List ℕ) → IsCutAnswer k (divided_with cut z node n x).nodes (best_of p r q X) (cut q X) in
-    subst (λ z. IsCutTree p r k (divided_with (best_of p r) u node n x) (divided_with cut z node n x)) (sym h.same)
-    (cut_then p r good k u h.sound t.nodes h.nodes cut node n x stands carries (subst Answers h.same answers))
+module _ {A : Type 0} (p : ContactPlan) (r : RouteRequest) (good : IsPlan p) (k : ℕ) (u t : Shape A) (h : IsCutTree p r (suc k) u t) (node : NodeId) (n : Node A) (x : RouteRecord) (stands : slice_get t.nodes node.0 ≡ Some n) (carries : n.route ≡ Some x) where
+  -- a tree whose routes that aren't carried come after k + 1 others, is then one whose such routes come after k
+  divided_cut : (found : Option RouteRecord) (new : List (Node A)) → IsCutAnswer k (divided_into t node n x found new).nodes (best_of p r (take n.length x.contacts) (wide_of n x.contacts)) found
+      → AreCutBy k (divided_into t node n x found new).nodes (fresh_after (best_of p r) (length t.leaves) n x.contacts) new → IsCutTree p r k (divided_with (best_of p r) u node n x) (divided_into t node n x found new)
+  divided_cut found new =
+      subst (λ (z : Shape A). IsCutAnswer k (divided_into z node n x found new).nodes (best_of p r (take n.length x.contacts) (wide_of n x.contacts)) found
+      → AreCutBy k (divided_into z node n x found new).nodes (fresh_after (best_of p r) (length z.leaves) n x.contacts) new → IsCutTree p r k (divided_with (best_of p r) u node n x) (divided_into z node n x found new)) (sym h.same)
+      (cut_then p r good k u h.sound t.nodes h.nodes node n x stands carries found new)
 
--- a sound tree that is divided with answers up to a bound is sound
-pub tree_divided_up_to : {A : Type 0} (p : ContactPlan) (r : RouteRequest) (good : IsPlan p) (b : Option Bound) (t : Shape A) (is : IsTree p r t) (node : NodeId) (n : Node A) (x : RouteRecord)
-    → slice_get t.nodes node.0 ≡ Some n → n.route ≡ Some x → IsTree p r (divided_with (best_up_to p r b) t node n x)
-tree_divided_up_to p r good b t is node n x stands carries =
-    let C = divided_with (best_up_to p r b) t node n x in
+  -- so it is with answers up to a bound, where only some are needed
+  module _ (b : Option Bound) (needed : Option ℕ) (new : List (Node A)) (many searches : ℕ) (are : AreFound needed many (fresh_after (best_up_to p r b) (length t.leaves) n x.contacts) new searches) where
+    abbrev V : Shape A
+    V = divided_into t node n x (best_up_to p r b (take n.length x.contacts) (wide_of n x.contacts)) new
+
+    pub given_cut : IsBoundFor b k V.nodes → ((m : ℕ) → needed ≡ Some m → k ≤ m) → IsCutTree p r k (divided_with (best_of p r) u node n x) V
+    given_cut above enough =
+        let s = x.contacts in
+        let found = best_up_to p r b (take n.length s) (wide_of n s) in
+        let answers = λ (q : List ℕ) (X : List ℕ). answer_cut k V.nodes p r b q X above in
+        divided_cut found new (answers (take n.length s) (wide_of n s))
+        (cut_twice k V.nodes (fresh_after (best_of p r) (length t.leaves) n s) (fresh_after (best_up_to p r b) (length t.leaves) n s) new
+        (fresh_cut k V.nodes (best_of p r) (best_up_to p r b) answers (length t.leaves) (take (n.length + 1) s) (drop (n.length + 1) s))
+        (cut_found k V.nodes needed (fresh_after (best_up_to p r b) (length t.leaves) n s) new many searches are (λ m y e l. (let few = enough m e in new_before t node n x y found new k (omega (arith, few, l))))))
+
+-- a sound tree that is divided in this way is sound
+pub tree_given : {A : Type 0} (p : ContactPlan) (r : RouteRequest) (good : IsPlan p) (b : Option Bound) (needed : Option ℕ) (t : Shape A) (is : IsTree p r t) (node : NodeId) (n : Node A) (x : RouteRecord)
+    → slice_get t.nodes node.0 ≡ Some n → n.route ≡ Some x → (new : List (Node A)) (many searches : ℕ) → AreFound needed many (fresh_after (best_up_to p r b) (length t.leaves) n x.contacts) new searches
+    → IsTree p r (divided_into t node n x (best_up_to p r b (take n.length x.contacts) (wide_of n x.contacts)) new)
+tree_given p r good b needed t is node n x stands carries new many searches are =
+    let C = divided_into t node n x (best_up_to p r b (take n.length x.contacts) (wide_of n x.contacts)) new in
     cut_sound p r 0 (divided_with (best_of p r) t node n x) C
-    (divided_cut p r good 0 t t (record { sound = is; nodes = cut_self 1 t.nodes t.nodes; same = refl }) (best_up_to p r b) node n x stands carries (λ q X. answer_cut 0 C.nodes p r b q X (λ _ _ _ _. omega arith)))
+    (given_cut p r good 0 t t (record { sound = is; nodes = cut_self 1 t.nodes t.nodes; same = refl }) node n x stands carries b needed new many searches are (λ _ _ _ _. omega arith) (λ _ _. omega arith))

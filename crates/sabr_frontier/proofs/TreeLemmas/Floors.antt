@@ -10,7 +10,7 @@ use Rattle.std.specs.Ordering.{nat_cmp, is_eq, is_lt}
 use Rattle.sabr_model.specs.Order.{by_numbers, put_in}
 use Rattle.sabr_model.specs.plan.Plan.{ContactPlan, IsPlan}
 use Rattle.sabr_model.specs.routes.Arrival.{RouteRequest}
-use Rattle.sabr_model.specs.routes.Parts.{goes_on, least_in}
+use Rattle.sabr_model.specs.routes.Parts.{goes_on, in_part, least_in}
 use Rattle.sabr_model.specs.routes.Record.{RouteRecord, record_of}
 use Rattle.sabr_model.specs.routes.Route.{delivery_of, is_route}
 use Rattle.sabr_model.proofs.RouteLemmas.Least.{least_some}
@@ -30,6 +30,7 @@ use Rattle.sabr_frontier.specs.declared.tree.NodeId.{NodeId}
 use Rattle.sabr_frontier.specs.listing.State.{Member}
 use Rattle.sabr_frontier.specs.tree.Sound.{IsTree, CarriesOnlyLeast}
 use Rattle.sabr_frontier.specs.tree.Giving.{fresh_nodes, wide_of, widened, divided_with}
+use Rattle.sabr_frontier.specs.tree.PageTrees.{IsBestWhere}
 use Rattle.sabr_frontier.specs.tree.Undo.{modify}
 use Rattle.sabr_frontier.proofs.TreeLemmas.ModifiedPlaces.{get_at_end, get_Member, modify_cases}
 use Rattle.sabr_search.specs.declared.bound.Bound.{Bound}
@@ -46,7 +47,7 @@ fewer_go_on q X x t on =
     subst (λ (z : List ℕ). goes_on q X z ≡ true) (sym w.2) (goes_on-append q X w.0 w.1 (has_number w.0 X ∙ absent))
 
 -- nor with one excluded where none was
-one_goes_on : (q : List ℕ) (x : ℕ) (t : List ℕ) → goes_on q (x ∷ []) t ≡ true → goes_on q [] t ≡ true
+pub one_goes_on : (q : List ℕ) (x : ℕ) (t : List ℕ) → goes_on q (x ∷ []) t ≡ true → goes_on q [] t ≡ true
 one_goes_on q x t on =
     let w = goes_on_parts q (x ∷ []) t on in
     subst (λ (z : List ℕ). goes_on q [] z ≡ true) (sym w.2) (goes_on-append q [] w.0 w.1 refl)
@@ -63,48 +64,60 @@ longer_goes_on s n X Y t within absent on =
     next_front : (xs : List ℕ) (i : ℕ) → i < length xs → take (i + 1) xs ≡ take i xs ++ slice_index xs i ∷ []
     next_front xs i inside = grind (arith, common_steps)
 
+-- ---- what holds of each route of a part holds of each of those
+
+module _ (p : ContactPlan) (r : RouteRequest) (P : List ℕ → Type 0) where
+  abbrev pub OfPart : List ℕ → List ℕ → Type 0
+  OfPart q X = (t : List ℕ) → IsTrue (in_part p r q X t) → P t
+
+  of_part : (q X z Y : List ℕ) → ((t : List ℕ) → goes_on z Y t ≡ true → goes_on q X t ≡ true) → OfPart q X → OfPart z Y
+  of_part q X z Y within holds t inside =
+      let both = and_parts (is_route p r t) (goes_on z Y t) inside in
+      holds t (and_from (is_route p r t) (goes_on q X t) both.0 (within t both.1))
+
+  pub of_after : (s : List ℕ) (n : ℕ) (X : List ℕ) → n < length s → has nat_cmp (slice_index s n) X ≡ false → OfPart (take n s) X → OfPart (take (n + 1) s) []
+  of_after s n X within absent = of_part (take n s) X (take (n + 1) s) [] (λ t. longer_goes_on s n X [] t within absent)
+
+  -- and after more numbers of the route
+  of_later : (s : List ℕ) (n k : ℕ) → n + k ≤ length s → OfPart (take n s) [] → OfPart (take (n + k) s) []
+  of_later s n zero within holds = subst (λ m. OfPart (take m s) []) (omega arith) holds
+  of_later s n (suc k) within holds = subst (λ m. OfPart (take m s) []) (omega arith) (of_after s (n + k) [] (omega (arith, within)) refl (of_later s n k (omega (arith, within)) holds))
+
+  pub of_longer : (s : List ℕ) (n m : ℕ) → n ≤ m → m ≤ length s → OfPart (take n s) [] → OfPart (take m s) []
+  of_longer s n m from to holds = subst (λ k. OfPart (take k s) []) (omega (arith, from)) (of_later s n (m - n) (omega (arith, from, to)) holds)
+
 -- ---- so no route of theirs delivers sooner
 
 module _ (p : ContactPlan) (r : RouteRequest) (d : ℕ) where
-  pub floor_part : (q X z Y : List ℕ) → ((t : List ℕ) → goes_on z Y t ≡ true → goes_on q X t ≡ true) → IsFloor p r q X d → IsFloor p r z Y d
-  floor_part q X z Y within floor t inside =
-      let both = and_parts (is_route p r t) (goes_on z Y t) inside in
-      floor t (and_from (is_route p r t) (goes_on q X t) both.0 (within t both.1))
+  abbrev pub late : List ℕ → Type 0
+  late t = d ≤ delivery_of p r t
 
   pub floor_wide : (q X : List ℕ) (x : ℕ) → IsFloor p r q X d → IsFloor p r q (put_in nat_cmp x X) d
-  floor_wide q X x = floor_part q X q (put_in nat_cmp x X) (fewer_go_on q X x)
+  floor_wide q X x = of_part p r late q X q (put_in nat_cmp x X) (fewer_go_on q X x)
 
   pub floor_one : (s : List ℕ) (n x : ℕ) → IsFloor p r (take n s) [] d → IsFloor p r (take n s) (x ∷ []) d
-  floor_one s n x = floor_part (take n s) [] (take n s) (x ∷ []) (one_goes_on (take n s) x)
-
-  pub floor_after : (s : List ℕ) (n : ℕ) (X : List ℕ) → n < length s → has nat_cmp (slice_index s n) X ≡ false → IsFloor p r (take n s) X d → IsFloor p r (take (n + 1) s) [] d
-  floor_after s n X within absent = floor_part (take n s) X (take (n + 1) s) [] (λ t. longer_goes_on s n X [] t within absent)
-
-  -- and none does after more numbers of the route
-  floor_later : (s : List ℕ) (n k : ℕ) → n + k ≤ length s → IsFloor p r (take n s) [] d → IsFloor p r (take (n + k) s) [] d
-  floor_later s n zero within floor = subst (λ m. IsFloor p r (take m s) [] d) (omega arith) floor
-  floor_later s n (suc k) within floor = subst (λ m. IsFloor p r (take m s) [] d) (omega arith) (floor_after s (n + k) [] (omega (arith, within)) refl (floor_later s n k (omega (arith, within)) floor))
+  floor_one s n x = of_part p r late (take n s) [] (take n s) (x ∷ []) (one_goes_on (take n s) x)
 
 pub floor_on : {a b : Asked} → b ≡ a → (s : List ℕ) (n m d : ℕ) → n ≤ m → m ≤ length s → IsFloor a.plan.plan a.request (take n s) [] d → IsFloor b.plan.plan b.request (take m s) [] d
-floor_on {a = a} same s n m d from to floor =
-    let p = a.plan.plan in
-    let r = a.request in
-    let more = floor_later p r d s n (m - n) (omega (arith, from, to)) floor in
-    subst (λ (z : Asked). IsFloor z.plan.plan z.request (take m s) [] d) (sym same) (subst (λ k. IsFloor p r (take k s) [] d) (omega (arith, from)) more)
+floor_on {a = a} same s n m d from to floor = subst (λ (z : Asked). IsFloor z.plan.plan z.request (take m s) [] d) (sym same) (of_longer a.plan.plan a.request (late a.plan.plan a.request d) s n m from to floor)
 
 -- ---- no route of a part delivers before its least
 
 first_less : (a b : ℕ) (xs ys : List ℕ) → a < b → is_lt (by_numbers (a ∷ xs) (b ∷ ys)) ≡ true
 first_less a b xs ys less = grind (arith, nat_tests, less)
 
-pub floor_least : (p : ContactPlan) (r : RouteRequest) → IsPlan p → (q X : List ℕ) (x : RouteRecord) → best_of p r q X ≡ Some x → IsFloor p r q X x.delivery
+-- a part's best route is its least one
+best_of_least : (p : ContactPlan) (r : RouteRequest) (q X : List ℕ) (x : RouteRecord) → best_of p r q X ≡ Some x → (least_in p r q X ≡ Some x.contacts) × (x ≡ record_of p r x.contacts)
 unfolding best_of
+best_of_least p r q X x best = (sym (best_numbers p r q X) ∙ ap (option_map numbers_of) best, told_back p r (least_in p r q X) x best)
+
+pub floor_least : (p : ContactPlan) (r : RouteRequest) → IsPlan p → (q X : List ℕ) (x : RouteRecord) → best_of p r q X ≡ Some x → IsFloor p r q X x.delivery
 floor_least p r good q X x best t inside =
     let s = x.contacts in
-    let least : least_in p r q X ≡ Some s = sym (best_numbers p r q X) ∙ ap (option_map numbers_of) best in
+    let is = best_of_least p r q X x best in
     let both = and_parts (is_route p r t) (goes_on q X t) inside in
-    let late = (least_some p r good q X s least).2 t both.0 both.1 in
-    let told : x.delivery ≡ delivery_of p r s = ap (λ (z : RouteRecord). z.delivery) (told_back p r (least_in p r q X) x best) in
+    let late = (least_some p r good q X s is.0).2 t both.0 both.1 in
+    let told : x.delivery ≡ delivery_of p r s = ap (λ (z : RouteRecord). z.delivery) is.1 in
     elim (cases_lt (delivery_of p r t) (delivery_of p r s)) [
       | inl sooner ↦ absurd (true≢false (sym (first_less (delivery_of p r t) (delivery_of p r s) (length t ∷ t) (length s ∷ s) sooner) ∙ late))
       | inr by ↦ omega (arith, told, by)
@@ -114,6 +127,15 @@ floor_least p r good q X x best t inside =
 pub floor_when : (p : ContactPlan) (r : RouteRequest) → IsPlan p → (q X : List ℕ) (x : RouteRecord) (searched : Bool) (d : ℕ) → (IsTrue searched → d ≡ x.delivery) → (IsFalse searched → d ≡ 0) → (IsTrue searched → best_of p r q X ≡ Some x) → IsFloor p r q X d
 floor_when p r good q X x true d told other best t inside = omega (arith, told refl, floor_least p r good q X x (best refl) t inside)
 floor_when p r good q X x false d told other best t inside = omega (arith, other refl)
+
+-- and it is the best where only some routes are needed, if that is known
+best_when : (p : ContactPlan) (r : RouteRequest) → IsPlan p → (q X : List ℕ) (x : RouteRecord) (searched : Bool) (needed : Option ℕ) (d : ℕ) → (IsTrue searched → d ≡ x.delivery) → (IsFalse searched → needed ≡ None) → (IsTrue searched → best_of p r q X ≡ Some x)
+    → IsBestWhere needed p r q X x.contacts d
+best_when p r good q X x searched None d told other best = tt
+best_when p r good q X x false (Some k) d told other best = absurd (let none = other refl in cc)
+best_when p r good q X x true (Some k) d told other best =
+    let is = best_of_least p r q X x (best refl) in
+    (sym (ap (λ (z : RouteRecord). z.delivery) is.1) ∙ sym (told refl), λ t inside. (let both = and_parts (is_route p r t) (goes_on q X t) inside in (least_some p r good q X x.contacts is.0).2 t both.0 both.1))
 
 -- ---- trees that searches made: each carried route is the least of its part
 
@@ -159,19 +181,31 @@ module _ {A : Type 0} (p : ContactPlan) (r : RouteRequest) where
       ]
     ]
 
--- no route of the part of the node that is known delivers before the tree's second for the route that it carries
-pub floor_known : {A : Type 0} (a : Asked) (t : Shape A) (id : NodeId) (w : RouteRecord) → IsKnown a t id w → IsPlan a.plan.plan → IsTree a.plan.plan a.request t → (copy : List ℕ) → copy ≡ w.contacts → (d : ℕ)
-    → (IsTrue t.is_searched → d ≡ w.delivery) → (IsFalse t.is_searched → d ≡ 0) → (n : Node A) → slice_get t.nodes id.0 ≡ Some n → IsFloor a.plan.plan a.request (take n.length copy) n.excluded d
-floor_known {A} a t id w k good tree copy e d told other m stands =
-    let p = a.plan.plan in
-    let r = a.request in
-    let x = k.route in
-    let same : m ≡ k.part = (let both : Some m ≡ Some k.part = sym stands ∙ k.stands in cc (both)) in
-    let contacts : copy ≡ x.contacts = e ∙ ap numbers_of k.copied in
-    let front : take k.part.length x.contacts ≡ prefix_of t.leaves k.part = (cut p r t tree id k.part x k.stands k.carries).2.front in
-    let floor : IsFloor p r (prefix_of t.leaves k.part) k.part.excluded d =
-    floor_when p r good (prefix_of t.leaves k.part) k.part.excluded x t.is_searched d (λ s. told s ∙ ap (λ (z : RouteRecord). z.delivery) k.copied) other (λ s. tree.least s k.part x (get_Member t.nodes id.0 k.part k.stands) k.carries) in
-    subst (λ (n : Node A). IsFloor p r (take n.length copy) n.excluded d) (sym same) (subst (λ z. IsFloor p r (take k.part.length z) k.part.excluded d) (sym contacts) (subst (λ q. IsFloor p r q k.part.excluded d) (sym front) floor))
+-- no route of the part of the node that is known delivers before the tree's second for the route that it carries, which is
+-- the best where only some are needed
+module _ {A : Type 0} (a : Asked) (t : Shape A) (id : NodeId) (w : RouteRecord) (k : IsKnown a t id w) (good : IsPlan a.plan.plan) (tree : IsTree a.plan.plan a.request t) (copy : List ℕ) (e : copy ≡ w.contacts) (d : ℕ) (told : IsTrue t.is_searched → d ≡ w.delivery) where
+  abbrev Q : Node A → List ℕ
+  Q n = prefix_of t.leaves n
+
+  told_part : IsTrue t.is_searched → d ≡ k.route.delivery
+  told_part s = told s ∙ ap (λ (z : RouteRecord). z.delivery) k.copied
+
+  least_part : IsTrue t.is_searched → best_of a.plan.plan a.request (Q k.part) k.part.excluded ≡ Some k.route
+  least_part s = tree.least s k.part k.route (get_Member t.nodes id.0 k.part k.stands) k.carries
+
+  -- what holds of the part holds of the node that stands there
+  of_known : (P : List ℕ → List ℕ → List ℕ → Type 0) → P (Q k.part) k.part.excluded k.route.contacts → (n : Node A) → slice_get t.nodes id.0 ≡ Some n → P (take n.length copy) n.excluded copy
+  of_known P h m stands =
+      let same : m ≡ k.part = (let both : Some m ≡ Some k.part = sym stands ∙ k.stands in cc (both)) in
+      let contacts : copy ≡ k.route.contacts = e ∙ ap numbers_of k.copied in
+      let front : take k.part.length k.route.contacts ≡ Q k.part = (cut a.plan.plan a.request t tree id k.part k.route k.stands k.carries).2.front in
+      subst (λ (n : Node A). P (take n.length copy) n.excluded copy) (sym same) (subst (λ z. P (take k.part.length z) k.part.excluded z) (sym contacts) (subst (λ q. P q k.part.excluded k.route.contacts) (sym front) h))
+
+  pub floor_known : (IsFalse t.is_searched → d ≡ 0) → (n : Node A) → slice_get t.nodes id.0 ≡ Some n → IsFloor a.plan.plan a.request (take n.length copy) n.excluded d
+  floor_known other = of_known (λ q X s. IsFloor a.plan.plan a.request q X d) (floor_when a.plan.plan a.request good (Q k.part) k.part.excluded k.route t.is_searched d told_part other least_part)
+
+  pub best_known : (needed : Option ℕ) → (IsFalse t.is_searched → needed ≡ None) → (n : Node A) → slice_get t.nodes id.0 ≡ Some n → IsBestWhere needed a.plan.plan a.request (take n.length copy) n.excluded copy d
+  best_known needed other = of_known (λ q X s. IsBestWhere needed a.plan.plan a.request q X s d) (best_when a.plan.plan a.request good (Q k.part) k.part.excluded k.route t.is_searched needed d told_part other least_part)
 
 -- ---- what of an answer is up to a bound is the part's least route if that is
 

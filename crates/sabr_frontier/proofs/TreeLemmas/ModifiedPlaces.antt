@@ -163,6 +163,10 @@ modify_front f [] ys i l = absurd (omega arith)
 modify_front f (x ∷ xs) ys zero l = refl
 modify_front f (x ∷ xs) ys (suc i) l = ap (λ t. x ∷ t) (modify_front f xs ys i (omega arith))
 
+pub modify_behind : {X : Type 0} (f : X → X) (xs ys : List X) (i : ℕ) → modify f (xs ++ ys) (length xs + i) ≡ xs ++ modify f ys i
+modify_behind f [] ys i = let same : 0 + i ≡ i = omega arith in ap (modify f ys) same
+modify_behind f (x ∷ xs) ys i = let same : suc (length xs) + i ≡ suc (length xs + i) = omega arith in ap (modify f (x ∷ (xs ++ ys))) same ∙ ap (λ t. x ∷ t) (modify_behind f xs ys i)
+
 -- what stands in a front
 pub get_taken : {X : Type 0} (n : ℕ) (xs : List X) (i : ℕ) → i < n → slice_get (take n xs) i ≡ slice_get xs i
 get_taken zero xs i l = absurd (omega arith)

@@ -1,15 +1,13 @@
 -- What a tree is once its least carried route is given.
-use Rattle.std.specs.Prelude.{◌≡◌, ℕ, ◌+◌, ◌-◌, suc, Bool, List, [], ◌∷◌, ◌++◌, length, take, drop, Option, Some, slice_index, slice_get, if◌then◌else◌}
+use Rattle.std.specs.Prelude.{◌≡◌, ℕ, ◌+◌, suc, Bool, List, [], ◌∷◌, ◌++◌, length, take, drop, Option, Some, slice_index, slice_get, if◌then◌else◌}
 use Rattle.std.specs.Ordering.{nat_cmp}
 use Rattle.sabr_model.specs.Order.{put_in}
 use Rattle.sabr_model.specs.routes.Record.{RouteRecord}
 use Rattle.sabr_frontier.specs.declared.tree.NodeId.{NodeId}
 use Rattle.sabr_frontier.specs.declared.tree.Node.{Node}
-use Rattle.sabr_frontier.specs.declared.giving.give_next.GivenRoute.{GivenRoute}
 use Rattle.sabr_frontier.specs.tree.Shape.{Shape}
 pub use Rattle.sabr_frontier.specs.tree.Shape.{ids_from, stands_before}
 use Rattle.sabr_frontier.specs.tree.Undo.{modify}
-use Rattle.sabr_frontier.specs.tree.Winners.{IsBestOf}
 
 -- ---- places in lists
 
@@ -57,23 +55,16 @@ changed_by t node x first index nodes =
 abbrev pub wide_of : {A : Type 0} → Node A → List ℕ → List ℕ
 wide_of n s = put_in nat_cmp (slice_index s n.length) n.excluded
 
--- that for what each search answers, where n is the node: the new nodes stand together in the index
+-- that where n is the node, which carries this then: the new nodes stand together in the index
+abbrev pub divided_into : {A : Type 0} → Shape A → NodeId → Node A → RouteRecord → Option RouteRecord → List (Node A) → Shape A
+divided_into t node n x found new =
+    let s = x.contacts in
+    let place = passing (stands_before t.leaves t.nodes (take (n.length + 1) s)) t.index in
+    let nodes = modify (widened (wide_of n s) found) t.nodes node.0 ++ new in
+    changed_by t node x (length t.nodes) (with_block place (ids_from (length t.nodes) (length new)) t.index) nodes
+
+-- that for what each search answers
 abbrev pub divided_with : {A : Type 0} → (List ℕ → List ℕ → Option RouteRecord) → Shape A → NodeId → Node A → RouteRecord → Shape A
 divided_with best t node n x =
     let s = x.contacts in
-    let q = take (n.length + 1) s in
-    let fresh = fresh_after best (length t.leaves) n s in
-    let place = passing (stands_before t.leaves t.nodes q) t.index in
-    let nodes = modify (widened (wide_of n s) (best (take n.length s) (wide_of n s))) t.nodes node.0 ++ fresh in
-    changed_by t node x (length t.nodes) (with_block place (ids_from (length t.nodes) (length fresh)) t.index) nodes
-
--- the best route that a node carries was given, with a search for each hop of it after the node's prefix
-pub record IsNextGiven {A : Type 0} (best : List ℕ → List ℕ → Option RouteRecord) (t u : Shape A) (given : GivenRoute) : Type 0 where
-  pub part : Node A
-  pub route : RouteRecord
-  pub stands : slice_get t.nodes given.node.0 ≡ Some part
-  pub former : given.first ≡ length t.nodes
-  pub carries : part.route ≡ Some route
-  pub least : IsBestOf t.nodes route
-  pub shape : u ≡ divided_with best t given.node part route
-  pub counted : given.searches ≡ length route.contacts - part.length
+    divided_into t node n x (best (take n.length s) (wide_of n s)) (fresh_after best (length t.leaves) n s)

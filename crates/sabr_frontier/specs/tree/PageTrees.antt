@@ -1,16 +1,21 @@
 -- A tree while a page's routes are given: its nodes, its index, and the nodes that don't carry what they might.
-use Rattle.std.specs.Prelude.{ℕ, List, [], ◌∷◌, ◌++◌, Option, ◌≡◌, ◌≤◌, ◌⊎◌, nat_lt, length, filter, suc, Bool, false, if◌then◌else◌, Some, None}
+use Rattle.std.specs.Prelude.{ℕ, List, [], ◌∷◌, ◌++◌, Option, ◌≡◌, ◌-◌, ◌≤◌, ◌⊎◌, nat_lt, length, take, filter, suc, Bool, false, if◌then◌else◌, Some, None, IsTrue, slice_get}
 use Rattle.sabr_model.specs.routes.Record.{RouteRecord, by_record}
 use Rattle.sabr_frontier.specs.declared.tree.NodeId.{NodeId}
 use Rattle.sabr_frontier.specs.declared.tree.Node.{Node}
 use Rattle.sabr_frontier.specs.tree.Shape.{Shape, order_of, IsBefore, shown}
 use Rattle.sabr_frontier.specs.tree.Undo.{modify}
-use Rattle.sabr_frontier.specs.tree.Giving.{changed_by, fresh_after, wide_of}
+use Rattle.sabr_frontier.specs.declared.giving.give_next.GivenRoute.{GivenRoute}
+use Rattle.sabr_frontier.specs.tree.Giving.{changed_by, divided_into, fresh_after, wide_of}
+use Rattle.sabr_frontier.specs.tree.SmallestKeys.{carried_keys}
+use Rattle.sabr_frontier.specs.tree.Winners.{IsBestOf}
 use Rattle.sabr_frontier.specs.listing.State.{Member, InPairs, State}
 use Rattle.std.specs.Option.{option_map_or}
 use Rattle.std.specs.Ordering.{is_lt}
 use Rattle.sabr_model.specs.plan.Plan.{ContactPlan}
 use Rattle.sabr_model.specs.routes.Arrival.{RouteRequest}
+use Rattle.sabr_model.specs.routes.Parts.{in_part}
+use Rattle.sabr_model.specs.routes.Route.{by_key, delivery_of}
 use Rattle.sabr_frontier.specs.tree.Searching.{Asked}
 use Rattle.sabr_frontier.specs.tree.Sound.{IsTree}
 
@@ -19,10 +24,6 @@ use Rattle.sabr_frontier.specs.tree.Sound.{IsTree}
 -- the node with the number after its prefix in s among those that it excludes
 abbrev pub excluding : {A : Type 0} → List ℕ → Node A → Node A
 excluding s n = record n { excluded = wide_of n s }
-
--- the nodes once the part n of one is divided by s: it excludes one number more, and those of a leaf for s come after all
-abbrev pub parted : {A : Type 0} → (List ℕ → List ℕ → Option RouteRecord) → ℕ → List (Node A) → NodeId → List ℕ → Node A → List (Node A)
-parted best leaf nodes node s n = modify (excluding s) nodes node.0 ++ fresh_after best leaf n s
 
 -- the node with what it carries then
 abbrev pub carrying : {A : Type 0} → Option RouteRecord → Node A → Node A
@@ -83,3 +84,33 @@ pub record IsCutTree {A : Type 0} (p : ContactPlan) (r : RouteRequest) (k : ℕ)
 -- so a tree is that of a state
 abbrev pub ShowsCut : {A : Type 0} → Asked → ℕ → State → Shape A → Type 0
 ShowsCut {A} a k s t = (u : Shape A) × (s ≡ shown u) × IsCutTree a.plan.plan a.request k u t
+
+-- ---- a route is given where only some of the best that come after it are needed
+
+-- the second list is the first, in which at least k routes are carried, but for routes that come after k of these
+pub record AreEnough {A : Type 0} (k : ℕ) (us ts : List (Node A)) : Type 0 where
+  pub cut : AreCutBy k ts us ts
+  pub many : k ≤ length (carried_keys ts)
+
+-- the second list is the first, by `all` searches; or only k routes are needed, and no more searches found enough of them
+abbrev pub AreFound : {A : Type 0} → Option ℕ → ℕ → List (Node A) → List (Node A) → ℕ → Type 0
+AreFound None all us ts searches = (ts ≡ us) × (searches ≡ all)
+AreFound (Some k) all us ts searches = ((ts ≡ us) × (searches ≡ all)) ⊎ (AreEnough k us ts × (searches ≤ all))
+
+-- where only some routes are needed, s is the best route of the part, and is delivered at this second
+abbrev pub IsBestWhere : Option ℕ → ContactPlan → RouteRequest → List ℕ → List ℕ → List ℕ → ℕ → Type 0
+IsBestWhere None p r q X s d = Unit {0}
+IsBestWhere (Some k) p r q X s d = (delivery_of p r s ≡ d) × ((t : List ℕ) → IsTrue (in_part p r q X t) → is_lt (by_key p r t s) ≡ false)
+
+-- the best route that a node carries was given, with a search for each hop of it after the node's prefix where all routes
+-- that come after it are needed
+pub record IsNextGiven {A : Type 0} (best : List ℕ → List ℕ → Option RouteRecord) (needed : Option ℕ) (t u : Shape A) (given : GivenRoute) : Type 0 where
+  pub part : Node A
+  pub route : RouteRecord
+  pub stands : slice_get t.nodes given.node.0 ≡ Some part
+  pub former : given.first ≡ length t.nodes
+  pub carries : part.route ≡ Some route
+  pub least : IsBestOf t.nodes route
+  pub new : List (Node A)
+  pub found : AreFound needed (length route.contacts - part.length) (fresh_after best (length t.leaves) part route.contacts) new given.searches
+  pub shape : u ≡ divided_into t given.node part route (best (take part.length route.contacts) (wide_of part route.contacts)) new

@@ -1,15 +1,19 @@
 //! Dividing a part by the route that it carries: the number that it then excludes, and all searches.
 
-ghost use Rattle.std.specs.Prelude.{◌≡◌, ◌+◌, ◌≤◌, ◌<◌, ◌++◌, ◌∷◌, [], take, drop, length, slice_index, vec_len, vec_capacity, IfOk, OnOk, OnErr, IsTrue};
+ghost use Rattle.std.specs.Prelude.{◌≡◌, ◌+◌, ◌-◌, ◌≤◌, ◌<◌, ◌++◌, ◌∷◌, [], None, Some, List, take, drop, length, slice_index, vec_len, vec_capacity, ℕ, IfOk, OnOk, OnErr, IsTrue, IsFalse};
+ghost use Rattle.sabr_model.specs.plan.Plan.{IsPlan};
+ghost use Rattle.sabr_model.specs.routes.Record.{RouteRecord};
 ghost use Rattle.sabr_model.specs.routes.Route.{is_route};
+ghost use Rattle.sabr_frontier.specs.declared.tree.Node.{Node};
 ghost use Rattle.sabr_frontier.specs.tree.Searching.{best_for};
 ghost use Rattle.sabr_frontier.specs.tree.Undo.{modify, including};
-ghost use Rattle.sabr_frontier.specs.tree.Giving.{OfNode, fresh_nodes, wide_of};
+ghost use Rattle.sabr_frontier.specs.tree.Giving.{OfNode, fresh_after, fresh_nodes, wide_of};
 ghost use Rattle.sabr_frontier.specs.tree.Sound.{CanExclude};
-ghost use Rattle.sabr_frontier.specs.tree.PageTrees.{excluding, parted};
+ghost use Rattle.sabr_frontier.specs.tree.PageTrees.{AreFound, IsBestWhere, excluding};
 ghost use Rattle.sabr_search.specs.questions.Bounded.{IsFloor};
 
 use crate::giving::searcher::Searcher;
+use crate::tree::change::carry;
 use crate::tree::excluded_numbers::ExcludedNumbers;
 use crate::tree::{Node, NodeId};
 use sabr_model::{NoMemory, Route};
@@ -33,6 +37,8 @@ pub struct Given {
     pub floor: u64,
     /// The bound of the searches for the new parts' routes, if they have one.
     pub bound: Option<Bound>,
+    /// How many routes after it are needed. None if all are.
+    pub needed: Option<usize>,
 }
 
 /// What dividing a part found.
@@ -69,9 +75,57 @@ pub fn find_best_after<B: BestOf<A>, A: Allocator + Copy>(
     )
 }
 
-/// Adds the nodes of a leaf for the beginnings of a route from `first` numbers on, for which there is room. Returns how
-/// many searches that took.
+/// Adds the nodes of a leaf for the beginnings of a route from `first` numbers on, for which there is room. They carry
+/// no route yet.
 #[tactic(auto, using(crate::proofs::TreeLemmas::ListFronts::fresh_push, crate::proofs::TreeLemmas::ListFronts::fresh_all))]
+fn add_nodes<A: Allocator + Copy>(
+    alloc: A,
+    nodes: &mut Vec<Node<A>, A>,
+    route: &[u32],
+    leaf: usize,
+    first: usize,
+)
+    requires within { first ≤ length route.now }
+    requires room { vec_len nodes.old + length route.now ≤ vec_capacity nodes.old + first }
+    ensures { nodes.new.items ≡ nodes.old.items ++ fresh_nodes (λ _ _. None) leaf (take first route.now) (drop first route.now) }
+{
+    for count in first..route.len() {
+        nodes.push_reserved(Node {
+            leaf,
+            length: count,
+            excluded: ExcludedNumbers::one(alloc, route[count]),
+            route: None,
+        });
+    }
+}
+
+/// 1 if a route was found that is delivered at this second with so many hops, and else 0.
+fn count_tie<A: Allocator + Copy>(found: &Option<Route<A>>, delivery: u64, hops: usize) -> usize
+    ensures most { result ≤ 1 }
+    ensures tie { result ≡ 1 → (y : RouteRecord) × (found.now ≡ Some y) × (y.delivery ≡ delivery) × (length y.contacts ≡ hops) }
+{
+    match found {
+        Some(route) if route.delivery == delivery && numbers(route).len() == hops => 1,
+        _ => 0,
+    }
+}
+
+/// Whether more routes than these are needed.
+fn needs_more(needed: Option<usize>, found: usize) -> bool
+    ensures no { IsFalse result → (k : ℕ) × (needed ≡ Some k) × (k ≤ found) }
+{
+    match needed {
+        Some(count) => found < count,
+        None => true,
+    }
+}
+
+/// Adds the nodes of a leaf for the beginnings of a route from `first` numbers on, for which there is room, and finds
+/// their routes, those of the longest beginnings first. Returns how many searches that took.
+///
+/// **It ends early** where only some routes are needed and as many ties were found: routes that are delivered with the
+/// given one, with as many hops. The route of a shorter beginning comes after each of them: it comes after the given
+/// one, and if it ties, too, it has a greater number where those still have the given one's.
 fn fresh_nodes<B: BestOf<A>, A: Allocator + Copy>(
     searcher: &mut Searcher<'_, B, A>,
     nodes: &mut Vec<Node<A>, A>,
@@ -79,14 +133,15 @@ fn fresh_nodes<B: BestOf<A>, A: Allocator + Copy>(
     given: Given,
     first: usize,
 ) -> Result<u64, NoMemory>
+    requires plan { IsPlan searcher.old.asked.plan.plan }
     requires route { IsTrue (is_route searcher.old.asked.plan.plan searcher.old.asked.request route.now) }
     requires floor { IsFloor searcher.old.asked.plan.plan searcher.old.asked.request (take first route.now) [] given.floor }
+    requires best { IsBestWhere given.needed searcher.old.asked.plan.plan searcher.old.asked.request (take first route.now) [] route.now given.floor }
     requires within { first ≤ length route.now }
     requires room { vec_len nodes.old + length route.now ≤ vec_capacity nodes.old + first }
 
-    // It adds a node for each number left, by a search each.
-    ensures nodes { OnOk result (nodes.new.items ≡ nodes.old.items ++ fresh_nodes (best_for searcher.old.asked given.bound) given.leaf (take first route.now) (drop first route.now)) }
-    ensures searches { IfOk result (λ n. n + first ≡ length route.now) }
+    // It adds a node for each number left, by at most a search each.
+    ensures nodes { IfOk result (λ n. (new : List (Node A)) × (nodes.new.items ≡ nodes.old.items ++ new) × AreFound given.needed (length route.now - first) (fresh_nodes (best_for searcher.old.asked given.bound) given.leaf (take first route.now) (drop first route.now)) new n) }
     ensures called { IfOk result (λ n. searcher.new.calls.count ≡ searcher.old.calls.count + n) }
 
     // If an allocation failed, some of the searches were taken, and some of the nodes may stay.
@@ -97,18 +152,17 @@ fn fresh_nodes<B: BestOf<A>, A: Allocator + Copy>(
     ensures same { searcher.new.asked ≡ searcher.old.asked }
     ensures front { take (length nodes.old.items) nodes.new.items ≡ nodes.old.items }
 {
-    let mut searches = 0;
-    for count in first..route.len() {
+    add_nodes(searcher.alloc(), nodes, route, given.leaf, first);
+    let end = nodes.len();
+    let mut ties = 0;
+    let mut count = route.len();
+    while first < count && needs_more(given.needed, ties) {
+        count -= 1;
         let found = find_best_after(searcher, route, count, given.floor, given.bound)?;
-        nodes.push_reserved(Node {
-            leaf: given.leaf,
-            length: count,
-            excluded: ExcludedNumbers::one(searcher.alloc(), route[count]),
-            route: found,
-        });
-        searches += 1;
+        ties += count_tie(&found, given.floor, route.len());
+        carry(nodes, NodeId(end - (route.len() - count)), found);
     }
-    Ok(searches)
+    Ok((route.len() - count) as u64)
 }
 
 /// Excludes the number that a route takes after the node's prefix, or changes nothing if an allocation failed.
@@ -133,7 +187,7 @@ fn exclude_next<A: Allocator + Copy>(
 
 /// Divides the part of a node by a route of it, which is then a leaf: the node excludes one number more, and the new
 /// parts come after the others, for which there is room. It takes one search for the node itself, and one for each new
-/// part.
+/// part, or fewer where only some routes are needed.
 #[tactic(auto, using(crate::proofs::ListingLemmas::AllRoutes::beginning_fits, crate::proofs::TreeLemmas::ModifiedPlaces::get_there, crate::proofs::TreeLemmas::ListFronts::increasing))]
 pub fn divide<B: BestOf<A>, A: Allocator + Copy>(
     searcher: &mut Searcher<'_, B, A>,
@@ -143,15 +197,16 @@ pub fn divide<B: BestOf<A>, A: Allocator + Copy>(
     given: Given,
 ) -> Result<Division<A>, NoMemory>
     requires in_range { node.0 < vec_len nodes.old }
+    requires plan { IsPlan searcher.old.asked.plan.plan }
     requires route { IsTrue (is_route searcher.old.asked.plan.plan searcher.old.asked.request route.now) }
     requires next { OfNode nodes.old.items node (λ n. CanExclude n route.now) }
     requires floor { OfNode nodes.old.items node (λ n. IsFloor searcher.old.asked.plan.plan searcher.old.asked.request (take n.length route.now) n.excluded given.floor) }
+    requires best { OfNode nodes.old.items node (λ n. IsBestWhere given.needed searcher.old.asked.plan.plan searcher.old.asked.request (take n.length route.now) n.excluded route.now given.floor) }
     requires room { vec_len nodes.old + length route.now ≤ vec_capacity nodes.old }
 
-    // It finds what the node carries, and changes and adds nodes, by a search each.
+    // It finds what the node carries, and changes and adds nodes, by at most a search each.
     ensures found { IfOk result (λ d. OfNode nodes.old.items node (λ n. d.route ≡ best_for searcher.old.asked given.bound (take n.length route.now) (wide_of n route.now))) }
-    ensures ok { OnOk result (OfNode nodes.old.items node (λ n. nodes.new.items ≡ parted (best_for searcher.old.asked given.bound) given.leaf nodes.old.items node route.now n)) }
-    ensures searches { IfOk result (λ d. OfNode nodes.old.items node (λ n. d.searches + n.length ≡ length route.now)) }
+    ensures ok { IfOk result (λ d. OfNode nodes.old.items node (λ n. (new : List (Node A)) × (nodes.new.items ≡ modify (excluding route.now) nodes.old.items node.0 ++ new) × AreFound given.needed (length route.now - n.length) (fresh_after (best_for searcher.old.asked given.bound) given.leaf n route.now) new d.searches)) }
     ensures called { IfOk result (λ d. searcher.new.calls.count ≡ searcher.old.calls.count + d.searches) }
 
     // If an allocation failed, some of the searches were taken. Once the new nodes are cut off and the number is no

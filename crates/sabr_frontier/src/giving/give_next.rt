@@ -1,12 +1,12 @@
 //! Giving the best route that the tree carries.
 
-ghost use Rattle.std.specs.Prelude.{◌≡◌, ◌+◌, ◌≤◌, IsTrue, IsFalse, IfOk, OnErr};
+ghost use Rattle.std.specs.Prelude.{◌≡◌, ◌+◌, ◌≤◌, None, IsTrue, IsFalse, IfOk, OnErr};
 ghost use Rattle.sabr_model.specs.plan.Plan.{IsPlan};
 ghost use Rattle.sabr_frontier.specs.listing.Listing.{searches_in};
 ghost use Rattle.sabr_frontier.specs.tree.Searching.{best_for};
 ghost use Rattle.sabr_frontier.specs.tree.Shape.{shape_of, shown};
 ghost use Rattle.sabr_frontier.specs.tree.Undo.{IsRoomy};
-ghost use Rattle.sabr_frontier.specs.tree.Giving.{IsNextGiven};
+ghost use Rattle.sabr_frontier.specs.tree.PageTrees.{IsNextGiven};
 ghost use Rattle.sabr_frontier.specs.tree.Sound.{IsTree};
 ghost use Rattle.sabr_frontier.specs.tree.Winners.{CarriesSome};
 
@@ -44,13 +44,26 @@ impl<A: Allocator + Copy> Tree<A> {
         0
     }
 
+    /// How many routes are to be found in place of all, if so many are needed. Only a route that a search found is known
+    /// to be the best of its part, so that others are known to come after it; else all are to be found.
+    pub fn needed_of(&self, needed: Option<usize>) -> Option<usize>
+        ensures yes { IsTrue self.now.is_searched → result ≡ needed }
+        ensures no { IsFalse self.now.is_searched → result ≡ None }
+    {
+        if self.is_searched {
+            return needed;
+        }
+        None
+    }
+
     /// Gives the best route that a node carries: it moves to the leaves. Room for all is reserved first. Then come the
     /// searches, and one that fails leaves the tree as it was. The new parts carry no route above the bound, where there
-    /// is one.
+    /// is one, and needn't carry one that comes after as many as are needed, where only some are.
     pub fn give_next<B: BestOf<A>>(
         &mut self,
         searcher: &mut Searcher<'_, B, A>,
         bound: Option<Bound>,
+        needed: Option<usize>,
     ) -> Result<GivenRoute, NoMemory>
         requires plan { IsPlan searcher.old.asked.plan.plan }
         requires tree { IsTree searcher.old.asked.plan.plan searcher.old.asked.request (shape_of self.old) }
@@ -58,7 +71,7 @@ impl<A: Allocator + Copy> Tree<A> {
         requires room { IsRoomy self.old }
 
         // The route is given.
-        ensures ok { IfOk result (IsNextGiven (best_for searcher.old.asked bound) (shape_of self.old) (shape_of self.new)) }
+        ensures ok { IfOk result (IsNextGiven (best_for searcher.old.asked bound) needed (shape_of self.old) (shape_of self.new)) }
         ensures called { IfOk result (λ given. searcher.new.calls.count ≡ searcher.old.calls.count + given.searches) }
 
         // If an allocation failed, it took no more searches, and the tree is as it was.
@@ -87,6 +100,7 @@ impl<A: Allocator + Copy> Tree<A> {
             leaf: self.leaves.len(),
             floor: self.floor_of(&route),
             bound,
+            needed: self.needed_of(needed),
         };
         match divide(searcher, &mut self.nodes, node, numbers(&route), given) {
             Ok(division) => {

@@ -1,6 +1,6 @@
 //! Giving several routes, one after another.
 
-ghost use Rattle.std.specs.Prelude.{◌≡◌, ℕ, ◌+◌, ◌*◌, ◌<◌, ◌≤◌, ◌++◌, drop, length, IfOk, OnOk, OnErr};
+ghost use Rattle.std.specs.Prelude.{◌≡◌, ℕ, ◌+◌, ◌*◌, ◌<◌, ◌≤◌, ◌++◌, ◌⊎◌, drop, length, IfOk, OnOk, OnErr};
 ghost use Rattle.sabr_model.specs.plan.Plan.{IsPlan};
 ghost use Rattle.sabr_model.specs.routes.Asking.{IsRequest, most_hops};
 ghost use Rattle.sabr_frontier.specs.tree.SmallestKeys.{AreNoted, CarryKeys, carried_keys, keys_of};
@@ -83,7 +83,7 @@ impl<A: Allocator + Copy> Tree<A> {
         let mut searches = 0;
         let mut left = count;
         while 0 < left && !self.is_empty() {
-            let given = self.give_next(searcher, None)?;
+            let given = self.give_next(searcher, None, None)?;
             searches += given.searches;
             left -= 1;
         }
@@ -94,6 +94,7 @@ impl<A: Allocator + Copy> Tree<A> {
     /// Gives the next `count` routes, or all that are left if they are fewer. The searches for new parts have a bound:
     /// they needn't find a route that comes after `count + 2` routes that the nodes have carried since the call began.
     /// A last page needs two more than the `count` given here: its last route, and one that shows that a route is left.
+    /// So a division, too, needs two more than are still to be given here.
     pub fn give_page_up_to<B: BestOf<A>>(
         &mut self,
         searcher: &mut Searcher<'_, B, A>,
@@ -111,15 +112,17 @@ impl<A: Allocator + Copy> Tree<A> {
         ensures state { OnOk result (ShowsCut searcher.old.asked 2 (steps_for searcher.old.asked count (shown (shape_of self.old))).1 (shape_of self.new)) }
         ensures room { OnOk result (IsRoomy self.new) }
 
-        // It takes as many searches as the steps. The question stays.
-        ensures called { OnOk result (searcher.new.calls.count ≡ searcher.old.calls.count + searches_in searcher.old.asked.plan.plan searcher.old.asked.request count (shown (shape_of self.old))) }
+        // It takes as many searches as the steps, or fewer if two routes at least are left. The question stays.
+        ensures no_fewer { OnOk result (searcher.old.calls.count ≤ searcher.new.calls.count) }
+        ensures at_most { OnOk result (searcher.new.calls.count ≤ searcher.old.calls.count + searches_in searcher.old.asked.plan.plan searcher.old.asked.request count (shown (shape_of self.old))) }
+        ensures called { OnOk result ((searcher.new.calls.count ≡ searcher.old.calls.count + searches_in searcher.old.asked.plan.plan searcher.old.asked.request count (shown (shape_of self.old))) ⊎ (2 ≤ length (carried_keys self.new.nodes.items))) }
         ensures same { searcher.new.asked ≡ searcher.old.asked }
     {
         let mut keys = SmallestKeys::new(searcher.alloc(), count as usize + 2);
         keys.note_all(self.nodes.as_slice())?;
         let mut left = count;
         while 0 < left && !self.is_empty() {
-            let given = self.give_next(searcher, keys.bound())?;
+            let given = self.give_next(searcher, keys.bound(), Some(left as usize + 1))?;
             self.note_new(given, &mut keys)?;
             left -= 1;
         }

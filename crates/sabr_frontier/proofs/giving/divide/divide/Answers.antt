@@ -1,6 +1,6 @@
-use Rattle.std.proofs.Common.{[], ◌≡◌, ◌+◌, ◌<◌, ◌++◌, get_or, slice_index, length, length-take-le, take, drop, arith, sym, ap, subst, ◌∙◌, ℕ, List, Some}
+use Rattle.std.proofs.Common.{[], false, inl, inr, None, Option, ◌-◌, ◌≡◌, ◌+◌, ◌<◌, ◌++◌, get_or, slice_index, length, length-take-le, take, drop, arith, sym, ap, subst, ◌∙◌, ℕ, List, Some}
 use Rattle.std.specs.Cmp.{nat_cmp_total}
-use Rattle.std.specs.Ordering.{nat_cmp}
+use Rattle.std.specs.Ordering.{is_lt, nat_cmp}
 use Rattle.std.specs.Prelude.{slice_get}
 use Rattle.std.specs.List.Sorted.{IsStrictlyIncreasing}
 use Rattle.std.proofs.lemmas.List.{take_all}
@@ -8,12 +8,13 @@ use Rattle.sabr_model.proofs.ListLemmas.Answered.{on_err}
 use Rattle.sabr_frontier.specs.declared.tree.Node.{Node}
 use Rattle.sabr_frontier.specs.listing.Rising.{Rises}
 use Rattle.sabr_frontier.specs.tree.Undo.{including, modify}
-use Rattle.sabr_frontier.specs.tree.PageTrees.{excluding}
+use Rattle.sabr_frontier.specs.tree.PageTrees.{AreFound, IsBestWhere, excluding}
 use Rattle.sabr_frontier.specs.tree.Giving.{fresh_nodes}
 use Rattle.sabr_frontier.specs.tree.Searching.{Asked, best_for}
-use Rattle.sabr_model.specs.plan.Plan.{ContactPlan}
+use Rattle.sabr_model.specs.plan.Plan.{ContactPlan, IsPlan}
 use Rattle.sabr_model.specs.routes.Arrival.{RouteRequest}
-use Rattle.sabr_frontier.proofs.TreeLemmas.Floors.{floor_after, floor_wide}
+use Rattle.sabr_model.specs.routes.Route.{by_key}
+use Rattle.sabr_frontier.proofs.TreeLemmas.Floors.{OfPart, floor_wide, of_after}
 use Rattle.sabr_frontier.proofs.TreeLemmas.ModifiedPlaces.{get_there, length-modify, within_get}
 use Rattle.sabr_frontier.proofs.TreeLemmas.ListFronts.{increasing, excluded_there, included, including_none}
 use Rattle.sabr_frontier.proofs.ListingLemmas.AllRoutes.{beginning_fits}
@@ -58,11 +59,23 @@ module _ {A : Type 0} (nodes : List (Node A)) {i : ℕ} {s : List ℕ} (can : (n
         wide_then : IsFloor p r (take k.length s) k.excluded d
         wide_then = let w = within_get nodes i l in subst (λ (k : Node A). IsFloor p r (take k.length s) k.excluded d) (sym (there w.0 w.1)) (floor_wide p r d (take w.0.length s) w.0.excluded (slice_index s w.0.length) (floor w.0 w.1))
 
-        after_then : IsFloor p r (take (k.length + 1) s) [] d
+      -- what holds of each route of its own part holds of those that go on after one number more
+      module _ (p : ContactPlan) (r : RouteRequest) (P : List ℕ → Type 0) (holds : (n : Node A) → slice_get nodes i ≡ Some n → OfPart p r P (take n.length s) n.excluded) where
+        after_then : OfPart p r P (take (k.length + 1) s) []
         after_then =
             let w = within_get nodes i l in
             let c = can w.0 w.1 in
-            subst (λ (k : Node A). IsFloor p r (take (k.length + 1) s) [] d) (sym (there w.0 w.1)) (floor_after p r d s w.0.length w.0.excluded c.longer c.absent (floor w.0 w.1))
+            subst (λ (k : Node A). OfPart p r P (take (k.length + 1) s) []) (sym (there w.0 w.1)) (of_after p r P s w.0.length w.0.excluded c.longer c.absent (holds w.0 w.1))
+
+      best_then : (p : ContactPlan) (r : RouteRequest) (needed : Option ℕ) (d : ℕ) → ((n : Node A) → slice_get nodes i ≡ Some n → IsBestWhere needed p r (take n.length s) n.excluded s d) → IsBestWhere needed p r (take (k.length + 1) s) [] s d
+      best_then p r None d best = tt
+      best_then p r (Some m) d best = (let w = within_get nodes i l in (best w.0 w.1).0, after_then p r (λ t. is_lt (by_key p r t s) ≡ false) (λ n is. (best n is).1))
+
+-- and one search more
+found_more : {A : Type 0} (needed : Option ℕ) (few many : ℕ) (us ts : List (Node A)) (n : ℕ) → few + 1 ≡ many → AreFound needed few us ts n → AreFound needed many us ts (n + 1)
+found_more None few many us ts n more h = (h.0, omega (arith, more, h.1))
+found_more (Some k) few many us ts n more (inl h) = inl (h.0, omega (arith, more, h.1))
+found_more (Some k) few many us ts n more (inr h) = inr (h.0, omega (arith, more, h.1))
 
 pub slice_bounds-find_best-end : goal.slice_bounds-find_best-end
 slice_bounds-find_best-end g c =
@@ -87,10 +100,18 @@ find_best-requires-clause-floor g c =
     subst (λ X. IsFloor a.plan.plan a.request (take c.index-part.result.now.length c.args.route.now) X c.args.given.floor) (sym c.as_slice.ensures)
     (wide_then _ c.requires.next (omega arith) c.in_ok-exclude_next.ensures.ok c.index-part.ensures _ _ c.requires.floor)
 
+pub fresh_nodes-requires-clause-plan : goal.fresh_nodes-requires-clause-plan
+fresh_nodes-requires-clause-plan g c = subst (λ (a : Asked). IsPlan a.plan.plan) (sym c.find_best.ensures.same) c.requires.plan
+
 pub fresh_nodes-requires-clause-floor : goal.fresh_nodes-requires-clause-floor
 fresh_nodes-requires-clause-floor g c =
     subst (λ (b : Asked). IsFloor b.plan.plan b.request (take (c.index-part.result.now.length + 1) c.args.route.now) [] c.args.given.floor) (sym c.find_best.ensures.same)
-    (after_then _ c.requires.next (omega arith) c.in_ok-exclude_next.ensures.ok c.index-part.ensures _ _ c.requires.floor)
+    (after_then _ c.requires.next (omega arith) c.in_ok-exclude_next.ensures.ok c.index-part.ensures _ _ _ c.requires.floor)
+
+pub fresh_nodes-requires-clause-best : goal.fresh_nodes-requires-clause-best
+fresh_nodes-requires-clause-best g c =
+    subst (λ (b : Asked). IsBestWhere c.args.given.needed b.plan.plan b.request (take (c.index-part.result.now.length + 1) c.args.route.now) [] c.args.route.now c.args.given.floor) (sym c.find_best.ensures.same)
+    (best_then _ c.requires.next (omega arith) c.in_ok-exclude_next.ensures.ok c.index-part.ensures _ _ c.args.given.needed c.args.given.floor c.requires.best)
 
 pub returns-clause-found : goal.returns-clause-found
 returns-clause-found g c n is =
@@ -102,13 +123,12 @@ pub returns-clause-ok : goal.returns-clause-ok
 returns-clause-ok g c n is =
     let s = c.args.route.now in
     let same = there _ c.requires.next (omega arith) c.in_ok-exclude_next.ensures.ok c.index-part.ensures n is in
-    c.in_ok-searches.ensures.nodes
-    ∙ (λ i. c.in_ok-exclude_next.ensures.ok i ++ fresh_nodes (best_for (c.find_best.ensures.same i) c.args.given.bound) c.args.given.leaf (take ((same i).length + 1) s) (drop ((same i).length + 1) s))
-
-pub returns-clause-searches : goal.returns-clause-searches
-returns-clause-searches g c n is =
-    let same = there _ c.requires.next (omega arith) c.in_ok-exclude_next.ensures.ok c.index-part.ensures n is in
-    omega (arith, c.in_ok-searches.ensures.searches, ap (λ (m : Node _). m.length) same)
+    let w = c.in_ok-searches.ensures.nodes in (
+      w.0,
+      w.1 ∙ ap (λ z. z ++ w.0) c.in_ok-exclude_next.ensures.ok,
+      found_more c.args.given.needed _ _ _ w.0 c.in_ok-searches.searches (omega (arith, (c.requires.next n is).longer, ap (λ (m : Node _). m.length) same))
+          (subst (λ us. AreFound c.args.given.needed (length s - (c.index-part.result.now.length + 1)) us w.0 c.in_ok-searches.searches) (λ i. fresh_nodes (best_for (c.find_best.ensures.same i) c.args.given.bound) c.args.given.leaf (take ((same i).length + 1) s) (drop ((same i).length + 1) s)) w.2),
+    )
 
 pub returns-in_err-exclude_next-clause-at_most : goal.returns-in_err-exclude_next-clause-at_most
 returns-in_err-exclude_next-clause-at_most g c = on_err c.from_residual.result (λ n stands. omega (arith, (c.requires.next n stands).longer))

@@ -9,7 +9,7 @@ use Rattle.sabr_frontier.specs.tree.Searching.{Searching, best_for}
 use Rattle.sabr_frontier.specs.tree.Left.{longer_go_on, part_goes_on}
 use Rattle.sabr_frontier.specs.tree.Giving.{wide_of}
 use Rattle.sabr_frontier.proofs.ListingLemmas.ListMembers.{Rises-put_in}
-use Rattle.sabr_frontier.proofs.TreeLemmas.Floors.{floor_after, floor_on, floor_wide}
+use Rattle.sabr_frontier.proofs.TreeLemmas.Floors.{floor_on, floor_wide, late, of_after}
 use Rattle.sabr_frontier.proofs.TreeLemmas.ListFronts.{increasing}
 use Rattle.sabr_frontier.proofs.SessionLemmas.LeftSteps.{goes_on_otherwise}
 use Rattle.sabr_frontier.proofs.GivingLemmas.{then_ok}
@@ -42,7 +42,7 @@ longer_go_on-requires-clause-floor g c =
     let n = c.args.part.now in
     let s = c.args.route.now in
     let floor = floor_in c.goes_otherwise.ensures.same (take n.length s) n.excluded c.args.floor c.requires.floor in
-    floor_on c.find_best.ensures.same s (n.length + 1) (n.length + 1) c.args.floor (omega arith) (omega (arith, c.requires.next.longer)) (floor_after a.plan.plan a.request c.args.floor s n.length n.excluded c.requires.next.longer c.requires.next.absent floor)
+    floor_on c.find_best.ensures.same s (n.length + 1) (n.length + 1) c.args.floor (omega arith) (omega (arith, c.requires.next.longer)) (of_after a.plan.plan a.request (late a.plan.plan a.request c.args.floor) s n.length n.excluded c.requires.next.longer c.requires.next.absent floor)
 
 pub find_best-requires-clause-increasing : goal.find_best-requires-clause-increasing
 find_best-requires-clause-increasing g c =

@@ -1,4 +1,4 @@
-use Rattle.std.proofs.Common.{◌≡◌, refl, ◌+◌, ◌-◌, ◌≤◌, List, ◌++◌, ℕ, inl, arith, ap, sym, subst, ◌∙◌, zero, suc, [], Some, None, append_assoc, append-nil}
+use Rattle.std.proofs.Common.{◌≡◌, refl, ◌+◌, ◌-◌, ◌≤◌, List, ◌++◌, ℕ, inl, inr, arith, ap, sym, subst, ◌∙◌, zero, suc, [], Some, None, append_assoc, append-nil}
 use Rattle.std.specs.Prelude.{is_some}
 use Rattle.sabr_model.specs.routes.Record.{record_of, RouteRecord}
 use Rattle.sabr_frontier.specs.listing.Listing.{next_route, given_first, one_step, searches_in, steps}
@@ -10,7 +10,7 @@ use Rattle.sabr_frontier.specs.tree.Searching.{Asked, records_for, steps_for}
 use Rattle.sabr_frontier.specs.tree.Shape.{Shape, shape_of, shown}
 use Rattle.sabr_frontier.specs.tree.Sound.{IsTree}
 use Rattle.sabr_frontier.proofs.GivingLemmas.{then_ok}
-use Rattle.sabr_frontier.proofs.GivingLemmas.CutPages.{IsSameStep, cut_looks, cut_next, cut_tree}
+use Rattle.sabr_frontier.proofs.GivingLemmas.CutPages.{IsSameStep, cut_looks, cut_next, cut_tree, two_looks}
 use Rattle.sabr_frontier.proofs.SessionLemmas.Pages.{idle, more_is, counts_go, counts_none, counts_stop, steps_go, steps_none, steps_stop}
 use Rattle.std.proofs.lemmas.List.{map-append}
 use Rattle.sabr_model.specs.plan.Plan.{ContactPlan, IsPlan}
@@ -120,12 +120,14 @@ returns g c =
     record {
       routes = then_ok c.give_last.result told.routes (λ _. all_given a first k c.args.count less b t same step c.args.self.now.leaves.items c.give_page_up_to.new.self.leaves.items c.give_last.new.self.leaves.items given.routes);
       more = then_ok c.give_last.result told.more (λ more h. h ∙ left_after_last a first k c.args.count less b t same step);
-      no_fewer = then_ok c.give_last.result told.no_fewer (λ _ h. omega (arith, given.called, h));
-      at_most = then_ok c.give_last.result told.at_most (λ _ h. omega (arith, given.called, h, all));
+      no_fewer = then_ok c.give_last.result told.no_fewer (λ _ h. omega (arith, given.no_fewer, h));
+      at_most = then_ok c.give_last.result told.at_most (λ _ h. omega (arith, given.at_most, h, all));
       looks = then_ok c.give_last.result told.looks (λ _. subst (λ (z : Asked). c.args.looks.now.left ≤ c.give_last.new.looks.left + detour_looks z.request.max_hops) same);
       least = then_ok c.give_last.result told.least (λ more h so _ called.
-          cut_looks a (steps_for a k first).1 t c.requires.plan given.state (looks_taken c.give_last.new.looks)
-          (subst (λ (z : Asked). HasLooks (looks_taken c.give_last.new.looks) z.plan.plan z.request (shown t)) same (h so (omega (arith, called, given.called)))));
+          cut_looks a (steps_for a k first).1 t c.requires.plan given.state (looks_taken c.give_last.new.looks) (elim given.called [
+            | inl all ↦ subst (λ (z : Asked). HasLooks (looks_taken c.give_last.new.looks) z.plan.plan z.request (shown t)) same (h so (omega (arith, called, all)))
+            | inr two ↦ two_looks a.plan.plan a.request c.requires.plan t (cut_tree a 2 (steps_for a k first).1 t given.state) two (looks_taken c.give_last.new.looks)
+          ]));
       same = told.same ∙ same;
     }
 

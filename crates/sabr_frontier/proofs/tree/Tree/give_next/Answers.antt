@@ -1,6 +1,6 @@
-use Rattle.std.proofs.Common.{◌≡◌, ℕ, ◌+◌, ◌-◌, ◌<◌, ◌++◌, length-append, Option, ◌∷◌, [], List, length, take, arith, ap, sym, subst, refl, ◌∙◌, Some, None}
+use Rattle.std.proofs.Common.{Bool, true, false, inl, ◌≡◌, ℕ, ◌+◌, ◌-◌, ◌<◌, ◌++◌, length-append, Option, ◌∷◌, [], List, length, take, arith, ap, sym, subst, refl, ◌∙◌, Some, None}
 use Rattle.std.proofs.lemmas.Option.{get_or_from_slice_get, slice_get_within}
-use Rattle.std.specs.Prelude.{slice_get}
+use Rattle.std.specs.Prelude.{IsFalse, IsTrue, slice_get}
 use Rattle.std.specs.Option.{option_and_then}
 use Rattle.sabr_model.specs.routes.Record.{RouteRecord}
 use Rattle.sabr_search.specs.declared.bound.Bound.{Bound}
@@ -14,16 +14,16 @@ use Rattle.sabr_frontier.specs.tree.Winners.{AreOthersWinners, AreWinners, IsFir
 use Rattle.sabr_frontier.specs.tree.Searching.{Asked, best_for}
 use Rattle.sabr_frontier.specs.tree.Sound.{CanExclude, IsTree}
 use Rattle.sabr_search.specs.questions.Bounded.{IsFloor}
-use Rattle.sabr_frontier.specs.tree.Giving.{IsNextGiven, changed_by, divided_with, fresh_after, wide_of, widened}
-use Rattle.sabr_frontier.specs.tree.PageTrees.{carrying, excluding, given_by}
+use Rattle.sabr_frontier.specs.tree.Giving.{changed_by, divided_into, fresh_after, wide_of, widened}
+use Rattle.sabr_frontier.specs.tree.PageTrees.{AreFound, IsBestWhere, IsNextGiven, carrying, excluding, given_by}
 use Rattle.sabr_frontier.proofs.TreeLemmas.ModifiedPlaces.{length-modify, modify_back, modify_front, modify_same, modify_twice, get_front, get_other, get_same, within_get}
 use Rattle.sabr_frontier.proofs.TreeLemmas.ListFronts.{carried_then}
 use Rattle.sabr_frontier.proofs.TreeLemmas.CarryingNodes.{IsKnown, known, inside, route_there}
 use Rattle.sabr_frontier.proofs.TreeLemmas.SlotWinners.{others_changed}
 use Rattle.sabr_frontier.proofs.SessionLemmas.Pages.{new_nodes, counts_known}
 use Rattle.sabr_frontier.proofs.TreeLemmas.IndexedNodes.{tree_indexed}
-use Rattle.sabr_frontier.proofs.TreeLemmas.CutTrees.{tree_divided_up_to}
-use Rattle.sabr_frontier.proofs.TreeLemmas.Floors.{floor_known}
+use Rattle.sabr_frontier.proofs.TreeLemmas.CutTrees.{found_length, tree_given}
+use Rattle.sabr_frontier.proofs.TreeLemmas.Floors.{best_known, floor_known}
 use Rattle.sabr_frontier.proofs.tree.Tree.give_next.Goals as goal
 
 -- the node without its route
@@ -90,20 +90,27 @@ module _ {A : Type 0} {a : Asked} {t : Shape A} {id : NodeId} {w : RouteRecord} 
         let here = get_or_from_slice_get cut id.0 at.0 n at.1 in
         omega (arith, k.can.longer, ap (λ (r : RouteRecord). length r.contacts) k.copied, ap (λ (m : Node A). m.length) same, ap (λ (m : Node A). m.length) here)
 
-  module _ (b : Option Bound) where
-    -- the new nodes
-    abbrev fresh : List (Node A)
-    fresh = fresh_after (best_for a b) (length t.leaves) k.part s
+  -- the new nodes and all nodes then
+  record IsDivided (b : Option Bound) (needed : Option ℕ) (searches : ℕ) (then : List (Node A)) : Type 0 where
+    new : List (Node A)
+    nodes : then ≡ former ++ new
+    found : AreFound needed (length s - k.part.length) (fresh_after (best_for a b) (length t.leaves) k.part s) new searches
 
-    -- all nodes then
-    then_is : {now then : List (Node A)} {copy : List ℕ} {leaf : ℕ} → now ≡ taken → copy ≡ w.contacts → leaf ≡ length t.leaves → ((n : Node A) → slice_get now id.0 ≡ Some n → then ≡ modify (excluding copy) now id.0 ++ fresh_after (best_for a b) leaf n copy) → then ≡ former ++ fresh
-    then_is {now} e numbers is ok =
-        ok (without k.part) (ap (λ z. slice_get z id.0) e ∙ there)
-        ∙ (λ i. modify (excluding (numbers_are numbers i)) (e i) id.0 ++ fresh_after (best_for a b) (is i) (without k.part) (numbers_are numbers i))
+  then_is : (b : Option Bound) (needed : Option ℕ) (searches : ℕ) {now then : List (Node A)} {copy : List ℕ} {leaf : ℕ} → now ≡ taken → copy ≡ w.contacts → leaf ≡ length t.leaves
+      → ((n : Node A) → slice_get now id.0 ≡ Some n → (new : List (Node A)) × (then ≡ modify (excluding copy) now id.0 ++ new) × AreFound needed (length copy - n.length) (fresh_after (best_for a b) leaf n copy) new searches) → IsDivided b needed searches then
+  then_is b needed searches {now} {then} {copy} {leaf} e numbers is ok =
+      let d = ok (without k.part) (ap (λ z. slice_get z id.0) e ∙ there) in
+      record {
+        new = d.0;
+        nodes = d.1 ∙ (λ i. modify (excluding (numbers_are numbers i)) (e i) id.0 ++ d.0);
+        found = subst (λ (z : List ℕ). AreFound needed (length z - k.part.length) (fresh_after (best_for a b) (length t.leaves) k.part z) d.0 searches) (numbers_are numbers)
+            (subst (λ m. AreFound needed (length copy - k.part.length) (fresh_after (best_for a b) m k.part copy) d.0 searches) is d.2);
+      }
 
-    long_then : {then : List (Node A)} → then ≡ former ++ fresh → length then + (k.part.length + 1) ≡ length t.nodes + length s
-    long_then e = omega (arith, ap (length {A = Node A}) e, length-append former fresh, long, new_nodes A (best_for a b) (length t.leaves) s k.part.length k.can.longer, k.can.longer)
+  long_then : {b : Option Bound} {needed : Option ℕ} {searches : ℕ} {then : List (Node A)} → IsDivided b needed searches then → length then + (k.part.length + 1) ≡ length t.nodes + length s
+  long_then {b} {needed} {searches} d = omega (arith, ap (length {A = Node A}) d.nodes, length-append former d.new, long, found_length needed (length s - k.part.length) (fresh_after (best_for a b) (length t.leaves) k.part s) d.new searches d.found, new_nodes A (best_for a b) (length t.leaves) s k.part.length k.can.longer, k.can.longer)
 
+  module _ (fresh : List (Node A)) where
     -- the nodes once it carries what was found
     nodes_found : {then : List (Node A)} → then ≡ former ++ fresh → (found : Option RouteRecord) → modify (carrying found) then id.0 ≡ modify (widened (wide_of k.part s) found) t.nodes id.0 ++ fresh
     nodes_found e found =
@@ -128,6 +135,12 @@ hops_are {u = u} {id = id} {next = next} k same is seen are =
     let one : next ≡ k.route = cc in
     ap (length {A = ℕ}) (are ∙ ap numbers_of one)
 
+-- where all were to be found, those that are needed were
+found_where : {A : Type 0} (needed asked : Option ℕ) (many : ℕ) (us ts : List (Node A)) (n : ℕ) (searched : Bool) → (IsTrue searched → asked ≡ needed) → (IsFalse searched → asked ≡ None) → AreFound asked many us ts n → AreFound needed many us ts n
+found_where needed asked many us ts n true all none h = subst (λ m. AreFound m many us ts n) (all refl) h
+found_where None asked many us ts n false all none h = subst (λ m. AreFound m many us ts n) (none refl) h
+found_where (Some k) asked many us ts n false all none h = inl (subst (λ m. AreFound m many us ts n) (none refl) h)
+
 pub divide-requires : goal.divide-requires
 divide-requires g c =
     let a = c.args.searcher.now.asked in
@@ -141,6 +154,9 @@ divide-requires g c =
       in_range = (let l = slice_get_within u.nodes c.in-Some.node.0 k.part k.stands in omega (arith, l, c.in-Some-carry.ensures.len));
       route = ap (is_route a.plan.plan a.request) numbers ∙ (inside a.plan.plan a.request u tree c.in-Some.node k.part k.route k.stands k.carries).0;
       next = of_taken k now (λ n. CanExclude n c.numbers.result.now) (subst (CanExclude (without k.part)) (sym numbers) (can_taken k));
+      plan = c.requires.plan;
+      best = of_taken k now (λ n. IsBestWhere c.needed_of.result a.plan.plan a.request (take n.length c.numbers.result.now) n.excluded c.numbers.result.now c.floor_of.result)
+          (best_known a u c.in-Some.node _ k c.requires.plan tree _ c.numbers.ensures c.floor_of.result c.floor_of.ensures.yes c.needed_of.result c.needed_of.ensures.no k.part k.stands);
       floor = of_taken k now (λ n. IsFloor a.plan.plan a.request (take n.length c.numbers.result.now) n.excluded c.floor_of.result) (floor_known a u c.in-Some.node _ k c.requires.plan tree _ c.numbers.ensures c.floor_of.result c.floor_of.ensures.yes c.floor_of.ensures.no k.part k.stands);
       room = omega (arith, c.in_ok-reserve.ensures.ok.nodes, ap (length {A = ℕ}) numbers, hops, c.in-Some-carry.ensures.len, c.in-Some-carry.ensures.capacity);
     }
@@ -148,16 +164,16 @@ divide-requires g c =
 pub change-requires : goal.change-requires
 change-requires g c =
     let k = known_then c.args.searcher.now.asked c.reserve.ensures.same c.requires.tree c.in-Some.ensures.some (sym c.in-Some-carry.ensures.route) in
-    let e = then_is k c.args.bound c.in-Some-carry.ensures.nodes c.numbers.ensures (omega (arith, c.len.ensures)) c.in-Ok.ensures.ok in
+    let e = then_is k c.args.bound c.needed_of.result c.in-Ok.division.searches c.in-Some-carry.ensures.nodes c.numbers.ensures (omega (arith, c.len.ensures)) c.in-Ok.ensures.ok in
     let u = shape_of c.reserve.new.self in
     let room = c.in_ok-reserve.ensures.room in
     let has = c.in_ok-reserve.ensures.ok in
     let hops = hops_are k c.reserve.ensures.same c.in-Some-carried.ensures c.as_slice.ensures.value c.numbers-hops.ensures in
-    let all = long_then k c.args.bound e in
+    let all = long_then k e in
     record {
       in_range = omega (arith, inner k, long k, room.count);
       within = omega (arith, room.count, all, k.can.longer);
-      won = winners_then k c.args.bound e c.in-Ok.division.route c.reserve.new.self.winners.items (omega (arith, room.count)) room.won;
+      won = winners_then k e.new e.nodes c.in-Ok.division.route c.reserve.new.self.winners.items (omega (arith, room.count)) room.won;
       space = record { index = omega (arith, has.index, all, k.can.longer, hops); added = omega (arith, has.added, all, k.can.longer, hops); places = omega (arith, has.winners, all, k.can.longer, hops) };
       leaf = has.leaves;
       entry = has.journal;
@@ -173,29 +189,29 @@ returns-in-Ok-clause-ok g c =
     let u = shape_of c.reserve.new.self in
     let k = known_then c.args.searcher.now.asked c.reserve.ensures.same c.requires.tree c.in-Some.ensures.some (sym c.in-Some-carry.ensures.route) in
     let now = c.in-Some-carry.ensures.nodes in
-    let e = then_is k c.args.bound now c.numbers.ensures (omega (arith, c.len.ensures)) c.in-Ok.ensures.ok in
+    let e = then_is k c.args.bound c.needed_of.result c.in-Ok.division.searches now c.numbers.ensures (omega (arith, c.len.ensures)) c.in-Ok.ensures.ok in
     let s = numbers_are k c.numbers.ensures in
     let first : length c.reserve.new.self.winners.items ≡ length u.nodes = omega (arith, c.in_ok-reserve.ensures.room.count) in
     let stands = ap (λ z. slice_get z node.0) now ∙ there k in
     let best = c.in-Ok.ensures.found (without k.part) stands ∙ (λ i. best_for a c.args.bound (take k.part.length (s i)) (wide_of k.part (s i))) in
-    let nodes = nodes_found k c.args.bound e found ∙ (λ i. modify (widened (wide_of k.part k.route.contacts) (best i)) u.nodes node.0 ++ fresh k c.args.bound) in
-    let D = divided_with (best_for a c.args.bound) u node k.part k.route in
+    let nodes = nodes_found k e.new e.nodes found ∙ (λ i. modify (widened (wide_of k.part k.route.contacts) (best i)) u.nodes node.0 ++ e.new) in
+    let D = divided_into u node k.part k.route (best_for a c.args.bound (take k.part.length k.route.contacts) (wide_of k.part k.route.contacts)) e.new in
     let tree = subst (IsTree p r) (sym c.reserve.ensures.same) c.requires.tree in
     let shape = c.change.ensures.shape
     ∙ (λ i. given_by (record u { nodes = c.divide.new.nodes.items }) node (k.copied i) found (first i))
     ∙ (λ i. changed_by u node k.route (length u.nodes) (order_of (u.leaves ++ k.route ∷ []) (nodes i)) (nodes i))
-    ∙ (λ i. record D { index = sym (tree_indexed p r D (tree_divided_up_to p r c.requires.plan c.args.bound u tree node k.part k.route k.stands k.carries)) i }) in
-    let counted : c.in-Ok.division.searches ≡ length k.route.contacts - k.part.length = omega (arith, c.in-Ok.ensures.searches (without k.part) stands, ap (length {A = ℕ}) s) in
+    ∙ (λ i. record D { index = sym (tree_indexed p r D (tree_given p r c.requires.plan c.args.bound c.needed_of.result u tree node k.part k.route k.stands k.carries e.new (length k.route.contacts - k.part.length) c.in-Ok.division.searches e.found)) i }) in
     let given : GivenRoute = record { node = node; first = c.len-first.result; searches = c.in-Ok.division.searches } in
-    subst (λ z. IsNextGiven (best_for a c.args.bound) z (shape_of c.change.new.self) given) c.reserve.ensures.same (record {
+    subst (λ z. IsNextGiven (best_for a c.args.bound) c.args.needed z (shape_of c.change.new.self) given) c.reserve.ensures.same (record {
       part = k.part;
       route = k.route;
       stands = k.stands;
       former = (let long = length-modify without u.nodes node.0 in let same = ap (length {A = Node _}) now in omega (arith, c.len-first.ensures, long, same));
       carries = k.carries;
       least = k.least;
+      new = e.new;
+      found = found_where c.args.needed c.needed_of.result _ _ _ _ u.is_searched c.needed_of.ensures.yes c.needed_of.ensures.no e.found;
       shape = shape;
-      counted = counted;
     })
 
 pub give_back-requires : goal.give_back-requires

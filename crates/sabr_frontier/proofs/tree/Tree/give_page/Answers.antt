@@ -35,7 +35,7 @@ overflow_add-searches g c =
     let p = c.args.searcher.now.asked.plan.plan in
     let r = c.args.searcher.now.asked.request in
     let t = shape_of c.loop-left.self in
-    let taken = given_same None c.loop-left.invariant.same c.in_ok-given.ensures.ok in
+    let taken = given_same None None c.loop-left.invariant.same c.in_ok-given.ensures.ok in
     let step = is_given p r c.requires.plan t (sound_tree p r (length t.journal) t c.loop-left.invariant.way.sound) _ _ taken in
     omega (arith, step.0.few, step.1, c.loop-left.invariant.few, c.requires.hops, c.requires.count, c.loop-left-test.true)
 
@@ -47,7 +47,7 @@ loop-left-preserved g c =
     let first = shape_of c.args.self.now in
     let i = c.loop-left.invariant in
     let k : ℕ = c.loop-left.left - 1 in
-    let step = is_given p r c.requires.plan t (sound_tree p r (length t.journal) t i.way.sound) _ _ (given_same None i.same c.in_ok-given.ensures.ok) in
+    let step = is_given p r c.requires.plan t (sound_tree p r (length t.journal) t i.way.sound) _ _ (given_same None None i.same c.in_ok-given.ensures.ok) in
     let u = shape_of c.give_next.new.self in
     let left : c.loop-left.left ≡ suc k = omega (arith, c.loop-left-test.true) in
     record {

@@ -1,11 +1,13 @@
-use Rattle.std.proofs.Common.{◌≡◌, ◌-◌, ◌⊎◌, ◌++◌, ℕ, List, [], ◌∙◌, suc, length, append-nil, ap, arith, refl, sym, subst, inl, inr, None}
+use Rattle.std.proofs.Common.{◌≡◌, ◌-◌, ◌⊎◌, ◌++◌, ℕ, List, [], ◌∙◌, suc, length, append-nil, ap, arith, refl, sym, subst, inl, inr, None, Option, Some, ◌+◌}
 use Rattle.sabr_model.specs.plan.Plan.{IsPlan}
 use Rattle.sabr_frontier.specs.tree.SmallestKeys.{AreNoted, CarryKeys, carried_keys}
 use Rattle.sabr_frontier.specs.listing.Listing.{one_step, searches_in}
 use Rattle.sabr_frontier.specs.listing.State.{State}
-use Rattle.sabr_frontier.specs.tree.PageTrees.{ShowsCut}
-use Rattle.sabr_frontier.specs.tree.Searching.{Asked, records_for, steps_for}
-use Rattle.sabr_frontier.specs.tree.Shape.{shape_of, shown}
+use Rattle.sabr_search.specs.declared.bound.Bound.{Bound}
+use Rattle.sabr_frontier.specs.declared.giving.give_next.GivenRoute.{GivenRoute}
+use Rattle.sabr_frontier.specs.tree.PageTrees.{IsNextGiven, ShowsCut}
+use Rattle.sabr_frontier.specs.tree.Searching.{Asked, best_for, records_for, steps_for}
+use Rattle.sabr_frontier.specs.tree.Shape.{Shape, shape_of, shown}
 use Rattle.sabr_frontier.specs.tree.Sound.{IsTree}
 use Rattle.sabr_frontier.proofs.GivingLemmas.CutPages.{IsCutWay, step_within, turn_is, way_first, way_on, cut_ended, cut_tree, cut_weaker}
 use Rattle.sabr_frontier.proofs.GivingLemmas.KeptKeys.{carry_keys}
@@ -43,6 +45,10 @@ give_next-requires-clause-tree g c =
 pub give_next-requires-clause-waiting : goal.give_next-requires-clause-waiting
 give_next-requires-clause-waiting g c = c.is_empty.ensures.some c.if-not-is_empty.true
 
+-- the same question, and as many needed as are left then, and two besides
+given_then : {A : Type 0} {a b : Asked} {t u : Shape A} {step : GivenRoute} {left : ℕ} (k : ℕ) → left ≡ suc k → (o : Option Bound) → b ≡ a → IsNextGiven (best_for b o) (Some (left + 1)) t u step → IsNextGiven (best_for a o) (Some (suc (suc k))) t u step
+given_then {a = a} {t = t} {u = u} {step = step} k is o same w = subst (λ n. IsNextGiven (best_for a o) (Some n) t u step) (omega (arith, is)) (given_same o (Some _) same w)
+
 pub note_new-requires-clause-in_range : goal.note_new-requires-clause-in_range
 note_new-requires-clause-in_range g c = (step_within c.in_ok-given.ensures.ok).0
 
@@ -56,7 +62,7 @@ note_new-requires-clause-fit g c =
     let k : ℕ = c.loop-left.left - 1 in
     let left : c.loop-left.left ≡ suc k = omega (arith, c.loop-left-test.true) in
     let way = subst (λ n. IsCutWay a (shown (shape_of c.args.self.now)) c.args.count c.args.self.now.leaves.items c.args.searcher.now.calls.count n (shape_of c.loop-left.self) c.loop-left.searcher.calls.count c.loop-left.keys) left c.loop-left.invariant.way in
-    let turn = turn_is c.requires.plan k way c.bound.result c.bound.ensures (given_same c.bound.result c.loop-left.invariant.same c.in_ok-given.ensures.ok) in
+    let turn = turn_is c.requires.plan k way c.bound.result c.bound.ensures (given_then k left c.bound.result c.loop-left.invariant.same c.in_ok-given.ensures.ok) in
     carry_keys a.plan.plan a.request u c.requires.plan c.requires.limits (cut_tree a (suc (suc k)) turn.next.1 u turn.then)
 
 pub loop-left-preserved : goal.loop-left-preserved
@@ -65,7 +71,7 @@ loop-left-preserved g c =
     let k : ℕ = c.loop-left.left - 1 in
     let left : c.loop-left.left ≡ suc k = omega (arith, c.loop-left-test.true) in
     let way = subst (λ n. IsCutWay a (shown (shape_of c.args.self.now)) c.args.count c.args.self.now.leaves.items c.args.searcher.now.calls.count n (shape_of c.loop-left.self) c.loop-left.searcher.calls.count c.loop-left.keys) left c.loop-left.invariant.way in
-    let taken = given_same c.bound.result c.loop-left.invariant.same c.in_ok-given.ensures.ok in
+    let taken = given_then k left c.bound.result c.loop-left.invariant.same c.in_ok-given.ensures.ok in
     record {
       way = way_on c.requires.plan k way c.bound.result c.bound.ensures taken c.give_next.new.searcher.calls.count c.in_ok-given.ensures.called c.note_new.new.keys c.in_ok-note_new.ensures;
       room = c.give_next.ensures.room;
@@ -90,6 +96,8 @@ returns g c =
       routes = sym (append-nil t.leaves) ∙ ap (λ (z : List (List ℕ) × State). t.leaves ++ records_for a z.0) (sym idle) ∙ way.routes;
       state = subst (λ z. ShowsCut a 2 z t) (ap (λ (z : List (List ℕ) × State). z.1) (sym idle) ∙ way.reaches) (cut_weaker a (suc (suc k)) 2 way.state t (omega arith) way.shows);
       room = c.loop-left.invariant.room;
-      called = (let sum = way.searches in omega (arith, sum, still));
+      no_fewer = way.begun;
+      at_most = elim way.searches [ inl sum ↦ omega (arith, sum, still) | inr sum ↦ omega (arith, sum.0, still) ];
+      called = elim way.searches [ inl sum ↦ inl (omega (arith, sum, still)) | inr sum ↦ inr (omega (arith, sum.1)) ];
       same = c.loop-left.invariant.same;
     }
