@@ -1,4 +1,4 @@
-use Rattle.std.proofs.Common.{◌≡◌, ◌+◌, ◌-◌, ◌≤◌, ◌<◌, ◌⊎◌, ◌++◌, ◌∷◌, [], None, Some, Option, List, ℕ, suc, inl, inr, take, drop, get_or, length, length-append, length-drop, refl, ap, sym, subst, ◌∙◌, arith}
+use Rattle.std.proofs.Common.{◌≡◌, ◌+◌, ◌-◌, ◌≤◌, ◌<◌, ◌⊎◌, ◌++◌, ◌∷◌, [], None, Some, Option, List, ℕ, suc, inl, inr, take, drop, get_or, length, length-append, length-drop, refl, ap, subst, ◌∙◌, arith}
 use Rattle.sabr_model.specs.plan.Plan.{IsPlan}
 use Rattle.sabr_model.specs.routes.Record.{RouteRecord}
 use Rattle.sabr_search.specs.declared.bound.Bound.{Bound}
