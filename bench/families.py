@@ -11,6 +11,8 @@ spread   contacts among many nodes, one node for each twenty contacts; each link
 hub      all contacts from node 1, to four receivers; each receiver has a quarter of them, minute by minute, and a light
          time for each minute
 parallel all contacts from node 1 to node 2, minute by minute, with one light time
+chain    two contacts from each node to the next, the second five seconds later: routes have half as many hops as there are
+         contacts
 
 Plans of spread and hub have as many ranges as contacts. The lines of these and of parallel stand in no order.
 """
@@ -322,3 +324,15 @@ def parallel(name, seed, count):
         start = minute * MINUTE
         plan.contact(start, start + plan.dice.randrange(10, MINUTE), 1, 2)
     return shuffled(plan)
+
+
+def chain(name, seed, count):
+    hops = count // 2
+    plan = shape(name, seed, count, hops + 1)
+    plan.head[0] = f"# {name}: {2 * hops} contacts, {hops} hops"
+    end = 10 * hops + DAY
+    for hop in range(hops):
+        plan.light(0, end, hop + 1, hop + 2, 1)
+        for delay in (0, 5):
+            plan.contact(10 * hop + delay, end, hop + 1, hop + 2)
+    return plan

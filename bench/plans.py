@@ -5,8 +5,8 @@
 
 Without --only, these are the 20 plans of the figures, over which 24 questions are asked. Of a name, the number is
 mostly that of the contacts; of walkers the first is that of the satellites, of grids that of the nodes on a side, of
-dense the nodes. families.py tells what is drawn. `spread-N`, `hub-N` and `parallel-N` are further plans, for any number
-N of contacts. And two plans, in real/, were made up by nobody: windows of satellites from the orbital elements of 22
+dense the nodes. families.py tells what is drawn. `spread-N`, `hub-N`, `parallel-N` and `chain-N` are further plans, for
+any number N of contacts. And two plans, in real/, were made up by nobody: windows of satellites from the orbital elements of 22
 January 2018 that Debian's gpredict has, reckoned by SGP4, with ten ground stations, and links between satellites in
 sight of each other; `iridium` has 128 satellites, with links up to 4500 km, and `cube` 437, with links up to 2500 km.
 
@@ -23,7 +23,7 @@ import lzma
 import os
 from typing import NamedTuple
 
-from families import dense, grid, hub, line, parallel, relay, sparse, spread, walker
+from families import chain, dense, grid, hub, line, parallel, relay, sparse, spread, walker
 from plan import BEGINS, SPELLINGS, respelled, second_of, text_of
 
 HERE = os.path.dirname(os.path.abspath(__file__))
@@ -50,7 +50,7 @@ PLANS = {
     "sparse-20000": (sparse, 20000, 1000, 40000),
 }
 REAL = {"iridium": [(1, 2), (6, 10), (3, 8)], "cube": [(1, 2), (6, 10), (3, 8)]}
-SHAPES = {"spread": spread, "hub": hub, "parallel": parallel}
+SHAPES = {"spread": spread, "hub": hub, "parallel": parallel, "chain": chain}
 
 
 class Question(NamedTuple):
@@ -96,7 +96,7 @@ def made(name, seed=1):
         make, *sizes = PLANS[name]
         return make(name, seed, *sizes)
     if shape not in SHAPES or not count.isdigit() or (shape == "spread" and not 32 <= int(count) <= 20000):
-        known = ", ".join([*PLANS, *REAL, "spread-32 to -20000", "hub-N", "parallel-N"])
+        known = ", ".join([*PLANS, *REAL, "spread-32 to -20000", "hub-N", "parallel-N", "chain-N"])
         raise SystemExit(f"there is no plan {name}: there are {known}")
     return SHAPES[shape](shape, seed, int(count))
 
