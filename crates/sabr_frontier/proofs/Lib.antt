@@ -1,3 +1,4 @@
+pub mod Names
 pub mod ListingLemmas
 pub mod TreeLemmas
 pub mod GivingLemmas

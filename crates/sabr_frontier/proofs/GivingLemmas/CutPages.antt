@@ -1,40 +1,16 @@
 -- A page that asks up to a bound: its steps, over a tree some of whose nodes don't carry what they might, the keys that it
 -- keeps, and where it is.
-use Rattle.std.proofs.Common.{◌≡◌, ◌⊎◌, inl, inr, ℕ, zero, suc, ◌+◌, ◌≤◌, true, false, cond, ◌||◌, List, [], ◌∷◌, ◌++◌, take, drop, refl, sym, ap, subst, ◌∙◌, arith, true≢false, Option, Some, None, ◌-◌, ◌*◌, ◌<◌, Bool, length, length-append, append_assoc, eqb-true}
-use Rattle.std.proofs.lemmas.Bool.{or_cases, or_parts, or_right, leb-true, leb-false, ltb-true, ltb-false, eqb-false}
-use Rattle.std.specs.Cmp.{both_ways}
-use Rattle.std.specs.Prelude.{is_some, slice_get, nat_le, nat_lt, ◌==◌, ◌&&◌}
-use Rattle.std.specs.Option.{option_map, option_map_or}
-use Rattle.std.specs.Ordering.{is_lt}
-use Rattle.sabr_model.specs.plan.Plan.{ContactPlan, IsPlan}
-use Rattle.sabr_model.specs.routes.Arrival.{RouteRequest}
-use Rattle.sabr_model.specs.routes.Record.{RouteRecord, by_record, record_of}
-use Rattle.sabr_search.specs.declared.bound.Bound.{Bound}
-use Rattle.sabr_frontier.specs.declared.giving.give_next.GivenRoute.{GivenRoute}
-use Rattle.sabr_frontier.specs.declared.tree.Node.{Node}
-use Rattle.sabr_frontier.specs.declared.tree.NodeId.{NodeId}
-use Rattle.sabr_frontier.specs.tree.Left.{CarriesNoOther, HasLooks, others_carry, part_goes_on, some_carry}
-use Rattle.sabr_frontier.specs.listing.State.{Member, PartState, State}
-use Rattle.sabr_frontier.specs.listing.Listing.{next_route, one_step, searches_for, searches_in}
-use Rattle.sabr_frontier.specs.tree.Searching.{Asked, best_for, steps_for, records_for}
-use Rattle.sabr_frontier.specs.tree.Best.{best_of}
-use Rattle.sabr_frontier.specs.tree.PageTrees.{AreCutBy, IsCutTree, IsNextGiven, ShowsCut, carries_before, count_before}
-use Rattle.sabr_frontier.specs.tree.Shape.{Shape, numbers_of, part_at, route_at, shown}
-use Rattle.sabr_frontier.specs.tree.Sound.{IsTree}
-use Rattle.sabr_frontier.specs.tree.Giving.{divided_with, OfNode, wide_of, widened}
-use Rattle.sabr_frontier.specs.tree.Winners.{CarriesNone, IsFirst, IsBestOf}
+use Rattle.sabr_frontier.proofs.Names.{◌≡◌, ◌⊎◌, inl, inr, ℕ, zero, suc, ◌+◌, ◌≤◌, true, false, cond, ◌||◌, List, [], ◌∷◌, ◌++◌, take, drop, refl, sym, ap, subst, ◌∙◌, arith, true≢false, Option, Some, None, ◌-◌, ◌*◌, ◌<◌, Bool, length, length-append, append_assoc, or_cases, or_parts, or_right, leb-true, leb-false, ltb-true, ltb-false, eqb-false, both_ways, is_some, slice_get, nat_le, ◌==◌, option_map, option_map_or, is_lt, ContactPlan, IsPlan, RouteRequest, RouteRecord, by_record, record_of, Bound, GivenRoute, Node, NodeId, CarriesNoOther, HasLooks, others_carry, part_goes_on, some_carry, Member, PartState, State, next_route, one_step, searches_for, searches_in, Asked, best_for, steps_for, records_for, best_of, AreCutBy, IsCutTree, IsNextGiven, ShowsCut, carries_before, count_before, Shape, numbers_of, part_at, route_at, shown, IsTree, divided_with, OfNode, wide_of, widened, CarriesNone, IsFirst, IsBestOf, drop_at, slice_get_within, is_up_to, AreNoted, IsBoundOf, SeenKeys, carried_keys, key_hops, keys_of, modify}
+use Rattle.std.proofs.Common.{eqb-true}
+use Rattle.std.specs.Prelude.{nat_lt, ◌&&◌}
 use Rattle.sabr_frontier.proofs.ListingLemmas.ListMembers.{Member-map, Member-map_cases}
 use Rattle.sabr_frontier.proofs.TreeLemmas.CarryingNodes.{carried_at, mapped, next_is, route_there, searches_are}
 use Rattle.sabr_frontier.proofs.TreeLemmas.CutTrees.{cut_self, cut_sound, given_cut, stands_in, still_before, IsBoundFor, carried_there, cut_weaken, least_same, none_same, bound_parts}
 use Rattle.sabr_frontier.proofs.TreeLemmas.SlotWinners.{carries_cases, standing_at}
 use Rattle.sabr_frontier.proofs.SessionLemmas.LeftSteps.{left_after, no_others, one_step_is}
 use Rattle.sabr_frontier.proofs.SessionLemmas.Pages.{counts_one, counts_stop, given_by, nothing_carried, nothing_given, steps_stop, counts_go, steps_go}
-use Rattle.std.proofs.lemmas.List.{drop_at}
 use Rattle.std.proofs.lemmas.List.Sums.{sum_by-cons}
-use Rattle.std.proofs.lemmas.Option.{slice_get_within}
-use Rattle.sabr_search.specs.questions.Bounded.{is_up_to}
-use Rattle.sabr_frontier.specs.tree.SmallestKeys.{AreNoted, IsBoundOf, SeenKeys, carried_keys, key_hops, key_of, keys_of}
-use Rattle.sabr_frontier.specs.tree.Undo.{modify}
+use Rattle.sabr_frontier.specs.tree.SmallestKeys.{key_of}
 use Rattle.sabr_frontier.proofs.GivingLemmas.KeptKeys.{all_up_to, carried-append, none_here, noted_up_to, one_at_most, one_up_to, up_to, up_to-append, up_to_length}
 use Rattle.sabr_frontier.proofs.TreeLemmas.ModifiedPlaces.{get_front, get_same, length-modify}
 

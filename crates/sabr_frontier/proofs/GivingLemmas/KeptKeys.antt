@@ -1,30 +1,12 @@
 -- The least keys of what is found, how many of them are up to a key, and that they tell routes apart.
-use Rattle.std.proofs.Common.{◌≡◌, ℕ, zero, suc, ◌+◌, ◌<◌, ◌≤◌, true, false, cond, List, [], ◌∷◌, ◌++◌, length, length-append, append_assoc, append-nil, refl, sym, ap, subst, ◌∙◌, arith, Option, Some, None, true≢false, inl, inr, get_or, take}
-use Rattle.std.specs.Prelude.{All, IfSome, IsSome, nat_le, slice_index_or, unwrap_or}
-use Rattle.std.specs.List.{sum_by}
+use Rattle.sabr_frontier.proofs.Names.{◌≡◌, ℕ, zero, suc, ◌+◌, ◌<◌, ◌≤◌, true, false, cond, List, [], ◌∷◌, ◌++◌, length, length-append, append_assoc, append-nil, refl, sym, ap, subst, ◌∙◌, arith, Option, Some, None, true≢false, inl, inr, get_or, take, All, IfSome, IsSome, nat_le, slice_index_or, unwrap_or, sum_by, leb-true, leb-false, le-leb, All-head, All-tail, All-nil, All-cons, All-append, IsPermutation-append_comm, IsPermutation-append_left, IsPermutation-append_right, IsPermutation-refl, IsPermutation-to_front, IsPermutation-trans, length_permutation, sum_by-IsPermutation, take_more, Node, Member, AreLeast, AreNoted, SeenKeys, carried_keys, keys_of, CarryKeys, option_and_then, ContactPlan, IsPlan, contact_named, last_time, RouteRequest, arrival, arrival_after, RouteRecord, delivery_of, route_facts, NodeId, Shape, IsTree}
 use Rattle.std.specs.List.Sorted.{IsPermutation}
-use Rattle.std.proofs.lemmas.Bool.{leb-true, leb-false, le-leb}
-use Rattle.std.proofs.lemmas.List.Elements.{All-head, All-tail, All-nil, All-cons, All-append}
 use Rattle.std.proofs.lemmas.List.Sums.{count_by-le-length, sum_by-append, sum_by-cons}
-use Rattle.std.proofs.lemmas.List.Sorted.{IsPermutation-append_comm, IsPermutation-append_left, IsPermutation-append_right, IsPermutation-refl, IsPermutation-to_front, IsPermutation-trans, length_permutation, sum_by-IsPermutation}
-use Rattle.std.proofs.lemmas.List.{take_more}
-use Rattle.sabr_frontier.specs.declared.tree.Node.{Node}
-use Rattle.sabr_frontier.specs.listing.State.{Member}
-use Rattle.sabr_frontier.specs.tree.SmallestKeys.{AreLeast, AreNoted, SeenKeys, carried_keys, keys_of, CarryKeys}
-use Rattle.std.specs.Option.{option_and_then}
 use Rattle.sabr_model.specs.declared.contact.Contact.{Contact}
-use Rattle.sabr_model.specs.plan.Plan.{ContactPlan, IsPlan, contact_named, last_time}
-use Rattle.sabr_model.specs.routes.Arrival.{RouteRequest, arrival, arrival_after}
 use Rattle.sabr_model.specs.routes.Asking.{IsRequest}
-use Rattle.sabr_model.specs.routes.Record.{RouteRecord}
-use Rattle.sabr_model.specs.routes.Route.{delivery_of}
 use Rattle.sabr_model.proofs.RouteLemmas.Follows.{ends_in_time}
 use Rattle.sabr_search.proofs.LinkLemmas.PlanFacts.{arrival_parts, cost_small, light_small}
 use Rattle.sabr_search.proofs.WayLemmas.Chains.{first_arrival}
-use Rattle.sabr_model.proofs.RouteLemmas.Routes.{route_facts}
-use Rattle.sabr_frontier.specs.declared.tree.NodeId.{NodeId}
-use Rattle.sabr_frontier.specs.tree.Shape.{Shape}
-use Rattle.sabr_frontier.specs.tree.Sound.{IsTree}
 use Rattle.sabr_frontier.proofs.TreeLemmas.CarryingNodes.{inside}
 use Rattle.sabr_frontier.proofs.TreeLemmas.ModifiedPlaces.{Member_get}
 

@@ -1,9 +1,5 @@
 -- The sum of the looks that a searcher's finder takes.
-use Rattle.std.proofs.Common.{◌≡◌, ℕ, ◌+◌, ◌-◌, ◌*◌, ◌≤◌, min, arith, ap, sym, subst, ◌∙◌}
-use Rattle.sabr_model.specs.plan.Plan.{ContactPlan}
-use Rattle.sabr_index.specs.Looks.{many_looks}
-use Rattle.sabr_search.specs.questions.Calls.{Calls, no_calls, with_call}
-use Rattle.sabr_frontier.specs.tree.Searching.{Asked, GoOn, IsAtRest, IsSumOf, Searching, call_looks, looks_since, without}
+use Rattle.sabr_frontier.proofs.Names.{◌≡◌, ℕ, ◌+◌, ◌-◌, ◌*◌, ◌≤◌, min, arith, ap, sym, subst, ◌∙◌, ContactPlan, many_looks, Calls, no_calls, with_call, Asked, GoOn, IsAtRest, IsSumOf, Searching, call_looks, looks_since, without}
 
 -- ---- the calls that are summed
 

@@ -1,31 +1,11 @@
 -- The list of all routes and the least of a part, as the frontier uses them.
-use Rattle.std.proofs.Common.{◌≡◌, ℕ, true, false, ◌||◌, not, eqb, List, [], ◌∷◌, refl, sym, ap, ◌∙◌, inl, inr, Some, None, arith, ◌++◌, subst, ◌<◌, length, take, get_or}
-use Rattle.std.specs.Prelude.{Contains}
-use Rattle.std.proofs.lemmas.Bool.{not_from_false, false_from_ne_true}
-use Rattle.std.proofs.lemmas.Bool.Decides.{nat_tests}
-use Rattle.std.specs.Ordering.{nat_cmp, is_eq, is_lt}
-use Rattle.std.specs.declared.cmp.Ordering.{Ordering}
-use Rattle.std.specs.declared.cmp.Ordering.TheVariants.{Less}
+use Rattle.sabr_frontier.proofs.Names.{◌≡◌, ℕ, true, false, ◌||◌, not, eqb, List, [], ◌∷◌, refl, sym, ap, ◌∙◌, inl, inr, Some, None, arith, ◌++◌, subst, ◌<◌, length, take, get_or, Contains, not_from_false, false_from_ne_true, nat_tests, nat_cmp, is_eq, is_lt, Ordering, Less, option_map_or, ContactPlan, IsPlan, RouteRequest, is_route, by_key, is_path, is_prefix, routes, number_after, goes_on, least_in, key_tells, has, Rises, Member, Within, goes_on_parts, number_after-append, number_after_some, member_is_route, route_is_member, empty_route, prefix_is_no_route, beginning_is_prefix, beginning_goes_on}
 use Rattle.std.specs.List.Sorted.{IsStrictlySortedBy}
-use Rattle.std.specs.Option.{option_map_or}
-use Rattle.sabr_model.specs.plan.Plan.{ContactPlan, IsPlan}
-use Rattle.sabr_model.specs.routes.Arrival.{RouteRequest}
-use Rattle.sabr_model.specs.routes.Route.{is_route, by_key, is_path, is_prefix}
-use Rattle.sabr_model.specs.routes.Listing.{routes}
-use Rattle.sabr_model.specs.routes.Parts.{number_after, goes_on, least_in}
 use Rattle.sabr_model.proofs.ListLemmas.Members.{IsIn, in_from_Contains, Contains-from_in, all_in}
-use Rattle.sabr_model.proofs.RouteLemmas.Listed.{key_tells}
 use Rattle.sabr_model.proofs.RouteLemmas.RoutesListed.{routes_are_listed}
-use Rattle.sabr_frontier.specs.listing.Rising.{has, Rises}
 use Rattle.sabr_frontier.proofs.ListingLemmas.ListMembers.{IsExact}
-use Rattle.sabr_frontier.specs.listing.State.{Member}
-use Rattle.sabr_frontier.specs.listing.Formed.{Within}
 use Rattle.sabr_frontier.proofs.ListingLemmas.Division.{Below-from}
-use Rattle.sabr_search.proofs.WayLemmas.Prefixes.{goes_on_parts, number_after-append, number_after_some}
-use Rattle.sabr_model.proofs.RouteLemmas.Least.{member_is_route, route_is_member}
-use Rattle.sabr_model.proofs.RouteLemmas.Routes.{empty_route}
 use Rattle.sabr_model.proofs.ListLemmas.Begins.{no_route_begins_another}
-use Rattle.sabr_model.proofs.RouteLemmas.Prefixes.{prefix_is_no_route, beginning_is_prefix, beginning_goes_on}
 use Rattle.sabr_frontier.proofs.TreeLemmas.ListFronts.{number_after-take}
 use Rattle.sabr_model.specs.plan.Plan as plans
 use Rattle.sabr_model.proofs.RouteLemmas.Least as model

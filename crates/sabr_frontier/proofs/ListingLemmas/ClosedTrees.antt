@@ -1,18 +1,7 @@
 -- The tree of a set of routes is closed and has these as its leaves, and each closed list is the tree of its leaves.
-use Rattle.std.proofs.Common.{◌≡◌, ℕ, true, List, [], ◌∷◌, map, sym, ap, subst, ◌∙◌, true≢false, ◌⊎◌, inl, inr, Option, Some, None, refl, Bool, ◌++◌, flat_map, ◌+◌, ◌<◌, ◌≤◌, suc, zero, length, arith, length-append}
-use Rattle.std.proofs.lemmas.Bool.{or_right}
-use Rattle.std.proofs.lemmas.Cmp.{nat_list_cmp_total, nat_cmp_total}
-use Rattle.std.specs.Ordering.{nat_cmp}
-use Rattle.sabr_model.specs.Order.{put_in, by_numbers}
-use Rattle.sabr_model.specs.routes.Parts.{number_after}
-use Rattle.sabr_frontier.specs.listing.Rising.{has, Rises}
-use Rattle.sabr_frontier.specs.listing.Tree.{proper_beginnings, put_number, numbers_after, put_all, prefixes, tree, set_of}
+use Rattle.sabr_frontier.proofs.Names.{◌≡◌, ℕ, true, List, [], ◌∷◌, map, sym, ap, subst, ◌∙◌, true≢false, ◌⊎◌, inl, inr, Option, Some, None, refl, Bool, ◌++◌, flat_map, ◌+◌, ◌<◌, ◌≤◌, suc, zero, length, arith, length-append, or_right, nat_list_cmp_total, nat_cmp_total, nat_cmp, put_in, by_numbers, number_after, has, Rises, proper_beginnings, put_number, numbers_after, put_all, prefixes, tree, set_of, both_ways, Member, leaves_of, leaves, IsClosed, InOrder, same_from_push}
 use Rattle.sabr_frontier.proofs.ListingLemmas.ListMembers.{Rises-put_in, same_members, has_exact, has_itself, put_in_has, put_in_cases, member_has, has_member, Member-map, Member-map_cases, Member-filter, Member-filter_cases, Member-flat_map, Member-flat_map_cases, Below-member, Less-apart, map_back}
 use Rattle.sabr_frontier.proofs.ListingLemmas.NumbersAfter.{lists_exact, numbers_exact, number_after-step, number_after-same, number_after-nil, number_after-snoc, number_after-longer, number_after-of_longer, number_after-of_snoc}
-use Rattle.std.specs.Cmp.{both_ways}
-use Rattle.sabr_frontier.specs.listing.State.{Member, leaves_of, leaves}
-use Rattle.sabr_frontier.specs.listing.Formed.{IsClosed, InOrder}
-use Rattle.std.proofs.lemmas.List.{same_from_push}
 
 -- ---- the members of the sets that make the tree, and that it doesn't depend on an order
 

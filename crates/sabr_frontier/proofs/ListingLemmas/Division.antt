@@ -1,23 +1,8 @@
 -- Taking a route divides its part: one pair grows by a number, and a block of new parts stands at one place.
-use Rattle.std.proofs.Common.{◌≡◌, ℕ, Bool, true, false, cond, ◌&&◌, List, [], ◌∷◌, ◌++◌, filter, map, sym, ap, subst, refl, ◌∙◌, true≢false, ◌⊎◌, inl, inr, Option, Some, None, append_assoc, append-nil}
-use Rattle.std.proofs.lemmas.Bool.{cases_Bool, cond-true, cond-false}
-use Rattle.std.proofs.lemmas.List.{map-append, append_cancel_left}
-use Rattle.std.proofs.lemmas.Cmp.{nat_list_cmp_total, nat_cmp_total, tied_itself}
-use Rattle.std.specs.Ordering.{is_eq, nat_cmp, ordering_then}
-use Rattle.std.specs.declared.cmp.Ordering.{Ordering}
-use Rattle.std.specs.declared.cmp.Ordering.TheVariants.{Less, Equal, Greater}
-use Rattle.sabr_model.specs.Order.{put_in, by_numbers}
-use Rattle.sabr_model.specs.routes.Parts.{number_after}
-use Rattle.sabr_frontier.specs.listing.Rising.{has, Below, Rises}
-use Rattle.sabr_frontier.specs.listing.Tree.{numbers_after, prefixes, tree, put_number}
-use Rattle.sabr_frontier.specs.listing.State.{PartState, pair_of, Member}
-use Rattle.sabr_frontier.specs.listing.Step.{same_pair, carried_in, carry}
+use Rattle.sabr_frontier.proofs.Names.{◌≡◌, ℕ, Bool, true, false, cond, ◌&&◌, List, [], ◌∷◌, ◌++◌, filter, map, sym, ap, subst, refl, ◌∙◌, true≢false, ◌⊎◌, inl, inr, Option, Some, None, append_assoc, append-nil, cases_Bool, cond-true, cond-false, map-append, append_cancel_left, nat_list_cmp_total, nat_cmp_total, tied_itself, is_eq, nat_cmp, ordering_then, Ordering, Less, Equal, Greater, put_in, by_numbers, number_after, has, Below, Rises, numbers_after, prefixes, tree, put_number, PartState, pair_of, Member, same_pair, carried_in, carry, number_after_some, both_ways, IsTotalOrder, Within}
 use Rattle.sabr_frontier.proofs.ListingLemmas.ListMembers.{Member-filter_cases, has-put_in, put_again, is_equal, has_itself, same_members, put_in_has, Member-map, Member-map_cases, Member-append_left, Member-append_right, Member-append_cases, Below-member, Less-apart, map_map, map_back}
 use Rattle.sabr_frontier.proofs.ListingLemmas.NumbersAfter.{lists_exact, numbers_exact, number_after-snoc, number_after-compare, number_after-trans, number_after-nil, number_after-same, number_after-longer}
 use Rattle.sabr_frontier.proofs.ListingLemmas.ClosedTrees.{In, Listed, In-first, In-later, In-cases, numbers_after_has, has_numbers_after, Rises-numbers_after, Rises-prefixes, tree_same, prefixes_has, has_prefixes, Listed-within, tree_has, In_Member, Member_In, prefixes_of_tree, not_empty}
-use Rattle.sabr_search.proofs.WayLemmas.Prefixes.{number_after_some}
-use Rattle.std.specs.Cmp.{both_ways, IsTotalOrder}
-use Rattle.sabr_frontier.specs.listing.Formed.{Within}
 
 -- ---- the order of lists and their proper_beginnings
 

@@ -1,15 +1,6 @@
 -- Pairs that come in order are closed if and only if each answers the least prefix that is expected, and none is
 -- expected at the end.
-use Rattle.std.proofs.Common.{◌≡◌, ℕ, Bool, true, false, cond, not, List, [], ◌∷◌, ◌++◌, map, sym, ap, subst, refl, ◌∙◌, true≢false, ◌⊎◌, inl, inr, append_assoc, append-nil}
-use Rattle.std.proofs.lemmas.Bool.{cases_Bool}
-use Rattle.std.proofs.lemmas.Cmp.{nat_list_cmp_total, nat_cmp_total, tied_itself}
-use Rattle.std.specs.Ordering.{nat_cmp, ordering_then}
-use Rattle.std.specs.declared.cmp.Ordering.TheVariants.{Less}
-use Rattle.sabr_model.specs.Order.{by_numbers}
-use Rattle.sabr_frontier.specs.listing.Rising.{has, Rises}
-use Rattle.sabr_frontier.specs.listing.State.{Member, InPairs}
-use Rattle.sabr_frontier.specs.listing.Formed.{IsClosed, InOrder}
-use Rattle.sabr_frontier.specs.loading.Partial.{onward, IsGood, Expects}
+use Rattle.sabr_frontier.proofs.Names.{◌≡◌, ℕ, Bool, true, false, cond, not, List, [], ◌∷◌, ◌++◌, map, sym, ap, subst, refl, ◌∙◌, true≢false, ◌⊎◌, inl, inr, append_assoc, append-nil, cases_Bool, nat_list_cmp_total, nat_cmp_total, tied_itself, nat_cmp, ordering_then, Less, by_numbers, has, Rises, Member, InPairs, IsClosed, InOrder, onward, IsGood, Expects}
 use Rattle.sabr_frontier.proofs.ListingLemmas.ListMembers.{Member-map, Member-map_cases, Member-filter, Member-filter_cases, Member-append_left, Member-append_right, Member-append_cases, Below-member, Less-apart, pairs_two}
 use Rattle.sabr_frontier.proofs.ListingLemmas.ClosedTrees.{Number_has, has_Number, Pairs}
 use Rattle.sabr_frontier.proofs.ListingLemmas.Division.{begins_less}

@@ -1,20 +1,9 @@
 -- A step from a well-formed state gives a route that is no leaf, and leaves a well-formed state with that leaf added.
-use Rattle.std.proofs.Common.{◌≡◌, ℕ, ◌+◌, Bool, true, false, List, [], ◌∷◌, ◌++◌, map, length, sym, ap, subst, refl, ◌∙◌, true≢false, ◌⊎◌, inl, inr, Option, Some}
-use Rattle.std.proofs.lemmas.Bool.{false_from_ne_true}
-use Rattle.std.proofs.lemmas.Cmp.{nat_list_cmp_total}
-use Rattle.std.specs.Ordering.{nat_cmp}
-use Rattle.sabr_model.specs.Order.{put_in, by_numbers}
-use Rattle.sabr_model.specs.routes.Parts.{number_after}
-use Rattle.sabr_frontier.specs.listing.Rising.{has, Rises}
-use Rattle.sabr_frontier.specs.listing.Tree.{prefixes, set_of, tree}
-use Rattle.sabr_frontier.specs.listing.State.{PartState, State, pair_of, Member, leaves}
-use Rattle.sabr_frontier.specs.listing.Formed.{IsClosed, Within, InOrder, IsWellFormed}
-use Rattle.sabr_frontier.specs.listing.Step.{carried_in, carry, parts_after, given, full, state_of}
+use Rattle.sabr_frontier.proofs.Names.{◌≡◌, ℕ, ◌+◌, Bool, true, false, List, [], ◌∷◌, ◌++◌, map, length, sym, ap, subst, refl, ◌∙◌, true≢false, ◌⊎◌, inl, inr, Option, Some, false_from_ne_true, nat_list_cmp_total, nat_cmp, put_in, by_numbers, number_after, has, Rises, prefixes, set_of, tree, PartState, State, pair_of, Member, leaves, IsClosed, Within, InOrder, IsWellFormed, carried_in, carry, parts_after, given, full, state_of, both_ways}
 use Rattle.sabr_frontier.proofs.ListingLemmas.ListMembers.{same_members, length-put_in, Rises-put_in, Member-map_cases, Member-map, map_back}
 use Rattle.sabr_frontier.proofs.ListingLemmas.NumbersAfter.{lists_exact}
 use Rattle.sabr_frontier.proofs.ListingLemmas.ClosedTrees.{In, In-put_in, put_in-In, Rises-numbers_after, Rises-prefixes, tree_has, leaves_has, Rises-leaves, Rises-set_of, set_of_has, has_set_of, tree_closed, leaves-tree, closed_tree, prefixes_of_tree}
 use Rattle.sabr_frontier.proofs.ListingLemmas.Division.{taken_in_none, carried_cases}
-use Rattle.std.specs.Cmp.{both_ways}
 
 tree_in_order : (S : List (List ℕ)) → InOrder (tree S)
 tree_in_order S = record {

@@ -1,31 +1,13 @@
 -- The laws of the frontier, from what holds for any notion of route, and the states of places.
-use Rattle.std.proofs.Common.{◌≡◌, ℕ, zero, suc, ◌+◌, ◌<◌, ◌≤◌, Bool, true, ltb, List, [], ◌∷◌, ◌++◌, map, take, drop, length, sym, ap, subst, ◌∙◌, ◌⊎◌, inl, inr, arith, Some, None, false}
-use Rattle.std.specs.Prelude.{is_some, slice_get}
-use Rattle.std.proofs.lemmas.Bool.{false_from_ne_true, lt-ltb, cases_Bool, le-ltb, cases_lt}
-use Rattle.sabr_model.specs.Order.{by_numbers}
-use Rattle.sabr_model.specs.plan.Plan.{ContactPlan, IsPlan}
-use Rattle.sabr_model.specs.routes.Arrival.{RouteRequest}
-use Rattle.sabr_model.specs.routes.Route.{is_route, is_path, is_prefix, by_key, before}
-use Rattle.sabr_model.specs.routes.Listing.{routes, page_of}
-use Rattle.sabr_model.specs.routes.Parts.{goes_on, least_in}
-use Rattle.sabr_frontier.specs.listing.Rising.{has, Rises}
-use Rattle.sabr_frontier.specs.listing.Tree.{tree, numbers_after}
-use Rattle.sabr_frontier.specs.listing.State.{pair_of, PartState, Member, last_of, State}
-use Rattle.sabr_frontier.specs.listing.Formed.{Within}
-use Rattle.sabr_frontier.specs.listing.Step.{state_of, given, full}
-use Rattle.sabr_frontier.specs.listing.Listing.{state_at, next_route, one_step, given_first, steps, leaves_in, IsState}
-use Rattle.sabr_frontier.specs.listing.Laws.{PartsDivide, StatesAreTold, StepsFollow, CarriesLeast, LeavesComeFirst}
+use Rattle.sabr_frontier.proofs.Names.{◌≡◌, ℕ, zero, suc, ◌+◌, ◌<◌, ◌≤◌, Bool, true, ltb, List, [], ◌∷◌, ◌++◌, map, take, drop, length, sym, ap, subst, ◌∙◌, ◌⊎◌, inl, inr, arith, Some, None, false, is_some, slice_get, false_from_ne_true, lt-ltb, cases_Bool, le-ltb, cases_lt, by_numbers, ContactPlan, IsPlan, RouteRequest, is_route, is_path, is_prefix, by_key, before, routes, page_of, goes_on, least_in, has, Rises, tree, numbers_after, pair_of, PartState, Member, last_of, State, Within, state_of, given, full, next_route, one_step, given_first, steps, leaves_in, IsState, PartsDivide, StatesAreTold, StepsFollow, CarriesLeast, LeavesComeFirst, drop_all, take_all, take-append-drop, length-take, option_map, is_lt, Less, key_total}
+use Rattle.sabr_frontier.specs.listing.Listing.{state_at}
 use Rattle.sabr_frontier.proofs.ListingLemmas.ClosedTrees.{In, In_Member, Member_In, tree_has, has_tree, set_of_has, closed_tree}
 use Rattle.sabr_frontier.proofs.ListingLemmas.Division.{in_some_part, in_one_part, taken_in_none, Rises-parts, RiseInTurn}
 use Rattle.sabr_frontier.proofs.ListingLemmas.NextPlace.{next_is, step_is, none_left, carried_outside, leaves_of_parts, verified, last_largest}
 use Rattle.sabr_frontier.proofs.ListingLemmas.AllRoutes.{route_filled, routes_apart, within_goes_on, goes_on_within, member_of, contains_of, by_key_exact, routes_rise, routes_complete}
 use Rattle.sabr_frontier.proofs.SessionLemmas.Pages.{steps_stop, steps_go, steps_none}
-use Rattle.std.proofs.lemmas.List.{drop_all, take_all, take-append-drop, length-take, length-take-le}
+use Rattle.std.proofs.lemmas.List.{length-take-le}
 use Rattle.sabr_frontier.proofs.TreeLemmas.ModifiedPlaces.{within_get}
-use Rattle.std.specs.Option.{option_map}
-use Rattle.std.specs.Ordering.{is_lt}
-use Rattle.std.specs.declared.cmp.Ordering.TheVariants.{Less}
-use Rattle.sabr_model.proofs.RouteLemmas.Listed.{key_total}
 use Rattle.sabr_frontier.proofs.ListingLemmas.ListMembers.{not_less_itself, turned, Member-map_cases, Member-append_left, Member-append_cases}
 use Rattle.sabr_frontier.proofs.ListingLemmas.NewRoutes.{new_routes}
 use Rattle.sabr_frontier.proofs.TreeLemmas.SoundSteps.{first_formed}

@@ -1,16 +1,5 @@
 -- Lists that rise, by a key or strictly, and their members.
-use Rattle.std.proofs.Common.{◌≡◌, Bool, true, false, ◌||◌, cond, List, [], ◌∷◌, ◌++◌, map, filter, flat_map, sym, ap, subst, refl, ◌∙◌, true≢false, ◌⊎◌, inl, inr, ◌+◌, length, arith, ℕ}
-use Rattle.std.specs.Cmp.{IsTotalOrder, both_ways}
-use Rattle.std.specs.List.{list_any}
-use Rattle.std.proofs.lemmas.Bool.{or_cases, or_left, or_right}
-use Rattle.std.proofs.lemmas.Cmp.{tied_itself, alike_right, upto, nat_list_cmp_total}
-use Rattle.std.specs.Ordering.{is_eq, ordering_reverse, is_gt, is_lt}
-use Rattle.std.specs.declared.cmp.Ordering.{Ordering}
-use Rattle.std.specs.declared.cmp.Ordering.TheVariants.{Less, Equal, Greater}
-use Rattle.sabr_frontier.specs.listing.Rising.{Below, Rises, has}
-use Rattle.sabr_frontier.specs.listing.State.{Member, InPairs}
-use Rattle.sabr_model.specs.Order.{put_in, by_numbers}
-use Rattle.std.proofs.lemmas.List.{map-id}
+use Rattle.sabr_frontier.proofs.Names.{◌≡◌, Bool, true, false, ◌||◌, cond, List, [], ◌∷◌, ◌++◌, map, filter, flat_map, sym, ap, subst, refl, ◌∙◌, true≢false, ◌⊎◌, inl, inr, ◌+◌, length, arith, ℕ, IsTotalOrder, both_ways, list_any, or_cases, or_left, or_right, tied_itself, alike_right, upto, nat_list_cmp_total, is_eq, ordering_reverse, is_gt, is_lt, Ordering, Less, Equal, Greater, Below, Rises, has, Member, InPairs, put_in, by_numbers, map-id}
 
 pub Member-append_left : {X : Type 0} (e : X) (xs ys : List X) → Member e xs → Member e (xs ++ ys)
 Member-append_left e [] ys h = absurd h

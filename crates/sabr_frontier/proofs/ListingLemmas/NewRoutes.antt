@@ -1,22 +1,11 @@
 -- Steps from any well-formed state give new routes, and so do pages with steps back between them.
-use Rattle.std.proofs.Common.{◌≡◌, ℕ, zero, suc, true, List, [], ◌∷◌, length, refl, sym, ap, subst, ◌∙◌, ◌⊎◌, inl, inr, arith, true≢false, Some, None, flat_map, Option}
-use Rattle.sabr_model.specs.Order.{put_in, by_numbers}
-use Rattle.sabr_model.specs.plan.Plan.{ContactPlan, IsPlan}
-use Rattle.sabr_model.specs.routes.Arrival.{RouteRequest}
-use Rattle.sabr_model.specs.routes.Route.{is_route, is_path, is_prefix, by_key}
-use Rattle.sabr_model.specs.routes.Parts.{least_in}
-use Rattle.sabr_model.proofs.RouteLemmas.Prefixes.{empty_is_prefix}
-use Rattle.sabr_frontier.specs.listing.State.{State, Member, InPairs}
-use Rattle.sabr_frontier.specs.listing.Step.{given}
-use Rattle.sabr_frontier.specs.listing.Listing.{IsState, leaves_in, next_route, one_step, steps}
-use Rattle.sabr_frontier.specs.listing.Formed.{Within}
+use Rattle.sabr_frontier.proofs.Names.{◌≡◌, ℕ, zero, suc, true, List, [], ◌∷◌, length, refl, sym, ap, subst, ◌∙◌, ◌⊎◌, inl, inr, arith, true≢false, Some, None, flat_map, Option, put_in, by_numbers, ContactPlan, IsPlan, RouteRequest, is_route, is_path, is_prefix, by_key, least_in, empty_is_prefix, State, Member, InPairs, given, IsState, leaves_in, next_route, one_step, steps, Within, option_map}
 use Rattle.sabr_frontier.specs.listing.Fresh.{GivesNewRoutes, PageGiven, Standing, standing_at, page_then, paged, gone_back, after_calls, StandsForNewRoutes, PagesGiveNewRoutes}
 use Rattle.sabr_frontier.proofs.ListingLemmas.ClosedTrees.{put_in-In, In_Member, Member_In}
 use Rattle.sabr_frontier.proofs.ListingLemmas.FormedSteps.{given_new, leaves_after, formed_after}
 use Rattle.sabr_frontier.proofs.ListingLemmas.AllRoutes.{route_filled, routes_apart, route_chains, route_fits, least_some}
 use Rattle.sabr_frontier.proofs.SessionLemmas.Pages.{steps_stop, steps_go, steps_none}
 use Rattle.sabr_frontier.proofs.ListingLemmas.NextPlace.{carrier}
-use Rattle.std.specs.Option.{option_map}
 use Rattle.sabr_frontier.proofs.ListingLemmas.ListMembers.{pairs_two, Member-append_cases}
 
 module _ (p : ContactPlan) (r : RouteRequest) (good : IsPlan p) where

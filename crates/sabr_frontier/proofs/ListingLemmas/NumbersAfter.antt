@@ -1,17 +1,9 @@
 -- What holds of the number that follows a beginning.
-use Rattle.std.proofs.Common.{◌≡◌, ℕ, true, false, cond, ◌==◌, List, [], ◌∷◌, ◌++◌, sym, ap, subst, refl, ◌∙◌, ◌⊎◌, inl, inr, Some, None, append_assoc, not, length, take, drop}
-use Rattle.std.proofs.lemmas.Bool.{eq-eqb, eqb-true, false_from_ne_true}
-use Rattle.std.specs.Ordering.{nat_cmp}
+use Rattle.sabr_frontier.proofs.Names.{◌≡◌, ℕ, true, false, cond, List, [], ◌∷◌, ◌++◌, sym, ap, subst, refl, ◌∙◌, ◌⊎◌, inl, inr, Some, None, append_assoc, not, length, take, drop, eq-eqb, eqb-true, false_from_ne_true, nat_cmp, by_numbers, number_after, goes_on, number_after_some, number_after-append, goes_on_parts, slice_get, option_map_or, take-append-drop, append_cancel_left, take-append_seam}
+use Rattle.std.proofs.Common.{◌==◌}
 use Rattle.std.specs.FinMap.{slice_cmp-IsAntisymmetric, nat_cmp-IsAntisymmetric}
-use Rattle.sabr_model.specs.Order.{by_numbers}
-use Rattle.sabr_model.specs.routes.Parts.{number_after, goes_on}
 use Rattle.sabr_frontier.proofs.ListingLemmas.ListMembers.{IsExact}
-use Rattle.sabr_search.proofs.WayLemmas.Prefixes.{number_after_some, number_after-append, goes_on_parts}
-use Rattle.std.specs.Prelude.{slice_get}
-use Rattle.std.specs.Option.{option_map_or}
-use Rattle.std.proofs.lemmas.List.{take-append-drop, append_cancel_left}
 use Rattle.sabr_model.specs.plan.Plan.{has}
-use Rattle.std.proofs.Math.Seq.{take-append_seam}
 
 pub lists_exact : IsExact by_numbers
 lists_exact = slice_cmp-IsAntisymmetric nat_cmp-IsAntisymmetric

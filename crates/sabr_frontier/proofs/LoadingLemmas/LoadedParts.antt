@@ -1,42 +1,16 @@
 -- A partial tree stays in order and answered when a part is added after the others. It is complete if and only if the
 -- parts are closed. What a prefix leads to with its excluded numbers, and when a part is refused, and how.
-use Rattle.std.proofs.Common.{◌≡◌, ℕ, suc, ◌+◌, ◌-◌, ◌<◌, Bool, true, false, not, ◌&&◌, nat_lt, List, [], ◌∷◌, ◌++◌, map, flat_map, reverse, if◌then◌else◌, ◌≤◌, length, take, refl, sym, ap, subst, ◌∙◌, ◌⊎◌, inl, inr, arith, true≢false, Option, Some, None, length-append, length-take-le, append-nil, cond, filter, get_or}
-use Rattle.std.specs.Prelude.{◌==◌, slice_get, IfOk, IfErr, IfSome, IfNone, Ok, Err, Result}
-use Rattle.std.specs.Option.{option_map, option_map_or}
-use Rattle.std.specs.Ordering.{nat_cmp, is_lt, is_eq}
-use Rattle.std.specs.declared.cmp.Ordering.TheVariants.{Less}
-use Rattle.std.proofs.lemmas.Bool.{and_parts, false_from_ne_true, cases_Bool, or_cases}
-use Rattle.std.proofs.lemmas.Bool.Decides.{nat_tests}
-use Rattle.std.proofs.lemmas.Cmp.{nat_list_cmp_total, nat_cmp_total}
-use Rattle.std.proofs.lemmas.List.{reverse-append, reverse-reverse, length-reverse, length-map, take-map, take-take, take-append-le, map-append, nil_from_length, take_all, take_more}
-use Rattle.std.proofs.lemmas.Option.{slice_get-map}
+use Rattle.sabr_frontier.proofs.Names.{◌≡◌, ℕ, suc, ◌+◌, ◌-◌, ◌<◌, Bool, true, false, not, ◌&&◌, nat_lt, List, [], ◌∷◌, ◌++◌, map, flat_map, reverse, if◌then◌else◌, ◌≤◌, length, take, refl, sym, ap, subst, ◌∙◌, ◌⊎◌, inl, inr, arith, true≢false, Option, Some, None, length-append, length-take-le, append-nil, cond, filter, get_or, ◌==◌, slice_get, IfOk, IfErr, IfSome, IfNone, Result, option_map, option_map_or, nat_cmp, is_lt, is_eq, Less, and_parts, false_from_ne_true, cases_Bool, or_cases, nat_tests, nat_list_cmp_total, nat_cmp_total, reverse-append, reverse-reverse, length-reverse, length-map, take-map, take-take, take-append-le, map-append, nil_from_length, take_all, take_more, slice_get-map, by_numbers, same_numbers, numbers_before, ContactPlan, rises_above, TabledPlan, RouteRequest, is_path, is_prefix, is_route, goes_on, RouteRecord, record_of, empty_is_prefix, prefix_goes_on, Calls, Node, Below, Rises, has, PartState, pair_of, part_with, Member, leaves_of, InPairs, IsClosed, InOrder, Within, onward, IsGood, Expects, AreExpected, AreSteps, IsPathEnd, expected_prefix, step_of, PartialShape, IsAnswered, IsLoader, IsPartial, IsChecked, IsVerdict, with_node, is_after_last, is_expected, is_least, is_complete, last_prefix, nothing_yet, nodes_of, expected_in, expected_after, partial_shape_of, loaded, AllGoOn, comes_after, may_carry, rise_strictly, IsCarryFault, Loaded, refusal_by, last_item, front, LoadFault, BadOrder, BadRoute, NotClosed, BadCount, NoMemory, filter-append}
+use Rattle.std.specs.Prelude.{Ok, Err}
 use Rattle.std.proofs.lemmas.Grind.{flat_map-append}
-use Rattle.sabr_model.specs.Order.{by_numbers, same_numbers, numbers_before}
-use Rattle.sabr_model.specs.plan.Plan.{ContactPlan, rises_above, TabledPlan}
-use Rattle.sabr_model.specs.routes.Arrival.{RouteRequest}
-use Rattle.sabr_model.specs.routes.Route.{is_path, is_prefix, is_route}
-use Rattle.sabr_model.specs.routes.Parts.{goes_on}
-use Rattle.sabr_model.specs.routes.Record.{RouteRecord, record_of}
-use Rattle.sabr_model.proofs.RouteLemmas.Prefixes.{empty_is_prefix, prefix_goes_on}
-use Rattle.sabr_search.specs.questions.Calls.{Calls}
-use Rattle.sabr_frontier.specs.declared.tree.Node.{Node}
 use Rattle.sabr_frontier.specs.declared.loader.check.Checked.{Checked}
 use Rattle.sabr_frontier.specs.declared.loader.path_end.ExpectedPrefix.{ExpectedPrefix}
-use Rattle.sabr_frontier.specs.listing.Rising.{Below, Rises, has}
-use Rattle.sabr_frontier.specs.listing.State.{PartState, pair_of, part_with, Member, leaves_of, InPairs}
-use Rattle.sabr_frontier.specs.listing.Formed.{IsClosed, InOrder, Within}
-use Rattle.sabr_frontier.specs.loading.Partial.{onward, IsGood, Expects, AreExpected, AreSteps, IsPathEnd, expected_prefix, step_of, PartialShape, IsAnswered, IsLoader, IsPartial, IsChecked, IsVerdict, with_node, is_after_last, is_expected, is_least, is_complete, last_prefix, nothing_yet, nodes_of, expected_in, expected_after, partial_shape_of, loaded, AllGoOn}
-use Rattle.sabr_frontier.specs.loading.Loading.{comes_after, may_carry, rise_strictly, IsCarryFault, Loaded, refusal_by}
-use Rattle.sabr_frontier.specs.tree.Undo.{last_item, front}
 use Rattle.sabr_frontier.proofs.ListingLemmas.ListMembers.{Below-lower, map_same, pairs_two, less_from_test, Member-append_right, Member-append_cases, Below-member, has-append, has_itself}
 use Rattle.sabr_frontier.proofs.ListingLemmas.ExpectedPrefixes.{Expects-push, Expects-front, Expects-one, expects_closed, closed_expects}
 use Rattle.sabr_frontier.proofs.ListingLemmas.AllRoutes.{goes_on_within, prefix_no_route}
 use Rattle.sabr_frontier.proofs.TreeLemmas.ModifiedPlaces.{get_Member, last_item_push, last_split, member_taken, no_last, pair_across, pairs_front, member_at}
 use Rattle.sabr_model.proofs.ListLemmas.Apart.{same_numbers_tell}
-use Rattle.sabr_frontier.specs.declared.loader.load_fault.LoadFault.{LoadFault}
-use Rattle.sabr_frontier.specs.declared.loader.load_fault.LoadFault.TheVariants.{BadOrder, BadRoute, NotClosed, BadCount, NoMemory}
 use Rattle.sabr_frontier.specs.declared.loader.partial_tree.PartialTree.{PartialTree}
-use Rattle.std.proofs.lemmas.List.Elements.{filter-append}
 use Rattle.sabr_model.specs.declared.fault.HopFault.{HopFault}
 use Rattle.sabr_model.specs.declared.fault.HopFault.TheVariants.{WrongEnd}
 use Rattle.sabr_model.specs.declared.following.Reached.{Reached}

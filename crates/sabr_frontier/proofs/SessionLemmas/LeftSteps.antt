@@ -1,44 +1,16 @@
 -- Whether a route is left once the least one that a node carries is given.
-use Rattle.std.proofs.Common.{◌≡◌, ℕ, List, [], ◌∷◌, ◌++◌, ◌||◌, arith, ap, sym, refl, ◌∙◌, zero, suc, ◌+◌, true, false, length, map, take, drop, Option, Some, None, true≢false, ◌<◌, inl, inr, subst, ◌≤◌, ltb, length-append, append_assoc, append-nil}
-use Rattle.std.proofs.lemmas.Option.{slice_get_within}
-use Rattle.std.specs.Prelude.{is_some, slice_get, slice_index}
-use Rattle.sabr_model.specs.plan.Plan.{IsPlan, ContactPlan}
-use Rattle.sabr_model.specs.routes.Record.{RouteRecord, record_of}
-use Rattle.sabr_frontier.specs.declared.tree.Node.{Node}
-use Rattle.sabr_frontier.specs.listing.Listing.{next_route, given_first, steps}
-use Rattle.sabr_frontier.specs.listing.State.{State, InPairs, Member, PartState}
-use Rattle.sabr_frontier.specs.tree.Left.{others_carry, part_goes_on, longer_go_on, some_carry, CarriesNoOther}
-use Rattle.sabr_frontier.specs.tree.Shape.{Shape, numbers_of, shown, part_at, part_of, route_of, IsBefore, prefix_of}
-use Rattle.sabr_frontier.specs.tree.Sound.{IsTree, CanExclude}
-use Rattle.sabr_frontier.specs.tree.Winners.{CarriesNone, IsBestOf}
+use Rattle.sabr_frontier.proofs.Names.{◌≡◌, ℕ, List, [], ◌∷◌, ◌++◌, ◌||◌, arith, ap, sym, refl, ◌∙◌, zero, suc, ◌+◌, true, false, length, map, take, drop, Option, Some, None, true≢false, ◌<◌, inl, inr, subst, ◌≤◌, ltb, length-append, append_assoc, append-nil, slice_get_within, is_some, slice_get, IsPlan, ContactPlan, RouteRecord, record_of, Node, next_route, given_first, steps, State, InPairs, Member, PartState, others_carry, part_goes_on, longer_go_on, some_carry, CarriesNoOther, Shape, numbers_of, shown, part_at, part_of, route_of, IsBefore, prefix_of, IsTree, CanExclude, CarriesNone, IsBestOf, option_map, option_and_then, RouteRequest, key_total, NodeId, fresh_nodes, widened, wide_of, divided_with, modify, or_cases, or_left, or_right, false_from_ne_true, ltb-true, ltb-false, tied_itself, nat_list_cmp_total, Less, Equal, by_numbers, put_in, drop-append-le, take-append-le, take-append-drop, take-append_seam, get_or-append_seam, nat_cmp, least_in, number_after, is_route, Within, has, GoesOtherwise, IsOtherWay}
+use Rattle.std.specs.Prelude.{slice_index}
 use Rattle.sabr_frontier.proofs.SessionLemmas.Pages.{steps_go, steps_none, nothing_carried, IsGiven, given_by}
 use Rattle.std.proofs.lemmas.List.Folds.{list_any-append}
 use Rattle.std.proofs.Math.Bool.{or_assoc, or_comm}
-use Rattle.std.specs.Option.{option_map, option_and_then}
-use Rattle.sabr_model.specs.routes.Arrival.{RouteRequest}
-use Rattle.sabr_model.proofs.RouteLemmas.Listed.{key_total}
-use Rattle.sabr_frontier.specs.declared.tree.NodeId.{NodeId}
 use Rattle.sabr_frontier.specs.tree.Best.{best_of}
-use Rattle.sabr_frontier.specs.tree.Giving.{fresh_nodes, widened, wide_of, divided_with}
-use Rattle.sabr_frontier.specs.tree.Undo.{modify}
 use Rattle.sabr_frontier.proofs.ListingLemmas.AllRoutes.{by_key_exact, has_number, least_none}
 use Rattle.sabr_frontier.proofs.ListingLemmas.ListMembers.{Member-map, any_has, none_has, put_in_cases}
 use Rattle.sabr_frontier.proofs.ListingLemmas.NextPlace.{least_carried_below}
 use Rattle.sabr_frontier.proofs.TreeLemmas.ModifiedPlaces.{Member_get, get_Member}
-use Rattle.std.proofs.lemmas.Bool.{or_cases, or_left, or_right, false_from_ne_true, ltb-true, ltb-false}
-use Rattle.std.proofs.lemmas.Cmp.{tied_itself, nat_list_cmp_total}
-use Rattle.std.specs.declared.cmp.Ordering.TheVariants.{Less, Equal}
-use Rattle.sabr_model.specs.Order.{by_numbers, put_in}
 use Rattle.sabr_frontier.proofs.TreeLemmas.CarryingNodes.{index_order, part_is, same_prefix}
-use Rattle.std.proofs.lemmas.List.{drop-append-le, take-append-le, take-append-drop}
-use Rattle.std.proofs.Math.Seq.{take-append_seam, get_or-append_seam}
-use Rattle.std.specs.Ordering.{nat_cmp}
 use Rattle.std.specs.Cmp.{nat_cmp_total}
-use Rattle.sabr_model.specs.routes.Parts.{least_in, number_after}
-use Rattle.sabr_model.specs.routes.Route.{is_route}
-use Rattle.sabr_frontier.specs.listing.Formed.{Within}
-use Rattle.sabr_frontier.specs.listing.Rising.{has}
-use Rattle.sabr_search.specs.questions.Detours.{GoesOtherwise, IsOtherWay}
 use Rattle.sabr_frontier.proofs.ListingLemmas.NumbersAfter.{number_after-snoc, numbers_exact}
 
 -- a list of nodes of which one was changed

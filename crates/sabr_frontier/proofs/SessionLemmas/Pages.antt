@@ -1,38 +1,14 @@
 -- Steps of a tree, one after another, and the trees before them.
-use Rattle.std.proofs.Common.{◌≡◌, ℕ, zero, suc, ◌+◌, ◌-◌, ◌<◌, ◌≤◌, Bool, true, false, not, reverse, ◌⊎◌, inl, inr, List, [], ◌∷◌, ◌++◌, map, length, refl, sym, ap, subst, ◌∙◌, arith, Some, None, append_assoc, length-take, take, drop, Option, length-drop}
-use Rattle.sabr_model.specs.plan.Plan.{ContactPlan, IsPlan}
-use Rattle.sabr_model.specs.routes.Arrival.{RouteRequest}
-use Rattle.sabr_model.specs.routes.Record.{RouteRecord, record_of}
-use Rattle.sabr_search.specs.declared.bound.Bound.{Bound}
-use Rattle.sabr_frontier.specs.declared.giving.give_next.GivenRoute.{GivenRoute}
-use Rattle.sabr_frontier.specs.declared.tree.NodeId.{NodeId}
-use Rattle.sabr_frontier.specs.declared.tree.Node.{Node}
-use Rattle.sabr_frontier.specs.listing.State.{State, PartState, Member}
-use Rattle.std.specs.Prelude.{is_some, IsTrue, IsFalse, slice_get}
-use Rattle.std.proofs.lemmas.List.{reverse-append, length_push}
-use Rattle.sabr_frontier.specs.listing.Listing.{one_step, next_route, given_first, steps, searches_for, searches_in}
-use Rattle.sabr_frontier.specs.tree.Shape.{Shape, numbers_of, shown, part_at}
-use Rattle.sabr_frontier.specs.tree.Undo.{CanUndoTimes, undone, undone_times, CanUndo, undone_by}
-use Rattle.sabr_frontier.specs.tree.Searching.{Asked, best_for}
-use Rattle.sabr_frontier.specs.tree.Best.{best_of}
-use Rattle.sabr_frontier.specs.tree.Giving.{fresh_nodes, divided_into, divided_with, wide_of}
-use Rattle.sabr_frontier.specs.tree.PageTrees.{IsNextGiven}
-use Rattle.sabr_frontier.specs.tree.Winners.{CarriesNone, CarriesSome, IsBestOf, IsNext}
-use Rattle.sabr_frontier.specs.tree.Sound.{IsTree}
-use Rattle.sabr_frontier.specs.session.Session.{IsSoundFor, IsSound, tree_before, former_of}
+use Rattle.sabr_frontier.proofs.Names.{◌≡◌, ℕ, zero, suc, ◌+◌, ◌-◌, ◌<◌, ◌≤◌, Bool, true, false, not, reverse, ◌⊎◌, inl, inr, List, [], ◌∷◌, ◌++◌, map, length, refl, sym, ap, subst, ◌∙◌, arith, Some, None, append_assoc, take, drop, Option, length-drop, ContactPlan, IsPlan, RouteRequest, RouteRecord, record_of, Bound, GivenRoute, NodeId, Node, State, PartState, Member, is_some, IsTrue, IsFalse, slice_get, reverse-append, length_push, one_step, next_route, given_first, searches_for, Shape, numbers_of, shown, part_at, CanUndoTimes, undone, undone_times, CanUndo, undone_by, Asked, best_for, best_of, fresh_nodes, divided_into, divided_with, wide_of, IsNextGiven, CarriesNone, CarriesSome, IsBestOf, IsNext, IsTree, IsSoundFor, IsSound, tree_before, former_of, option_map, is_route, least_in, key_total, route_facts, given}
+use Rattle.std.proofs.Common.{length-take}
+use Rattle.sabr_frontier.specs.listing.Listing.{steps, searches_in}
 use Rattle.sabr_frontier.proofs.TreeLemmas.CarryingNodes.{IsKnown, searches_are, carried_at, inside, next_is, record_is, shown_divided}
-use Rattle.std.specs.Option.{option_map}
-use Rattle.sabr_model.specs.routes.Route.{is_route}
-use Rattle.sabr_model.specs.routes.Parts.{least_in}
-use Rattle.sabr_model.proofs.RouteLemmas.Listed.{key_total}
-use Rattle.sabr_model.proofs.RouteLemmas.Routes.{route_facts}
 use Rattle.sabr_frontier.proofs.ListingLemmas.ListMembers.{Member-map_cases}
 use Rattle.sabr_frontier.proofs.ListingLemmas.NextPlace.{least_carried_none}
 use Rattle.sabr_frontier.proofs.ListingLemmas.AllRoutes.{by_key_exact}
 use Rattle.sabr_frontier.proofs.TreeLemmas.ListFronts.{length_fresh}
 use Rattle.sabr_frontier.proofs.TreeLemmas.SlotWinners.{standing_at}
 use Rattle.sabr_frontier.proofs.TreeLemmas.SoundSteps.{tree_divided, undone_divided, can_undo}
-use Rattle.sabr_frontier.specs.listing.Step.{given}
 
 -- ---- what giving the least route that a node of a sound tree carries is
 

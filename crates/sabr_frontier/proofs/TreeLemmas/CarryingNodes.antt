@@ -1,31 +1,7 @@
 -- A node of a sound tree that carries a route, before that is given, and the tree's state after that.
-use Rattle.std.proofs.Common.{◌≡◌, ℕ, ◌-◌, ◌<◌, true, false, List, [], ◌∷◌, ◌++◌, map, length, refl, sym, ap, subst, ◌∙◌, arith, true≢false, Option, Some, None, suc, ◌+◌, take, drop, get_or, inl, inr, length-append, length-take-le, Bool, append_assoc, ◌⊎◌}
-use Rattle.std.proofs.lemmas.Option.{slice_get_within}
-use Rattle.std.specs.Prelude.{slice_get}
-use Rattle.std.specs.Option.{option_map, option_and_then, option_map_or}
-use Rattle.std.specs.List.{find}
-use Rattle.std.proofs.lemmas.Cmp.{tied_itself, nat_list_cmp_total}
-use Rattle.std.specs.Ordering.{nat_cmp, is_lt, is_eq}
-use Rattle.sabr_model.specs.Order.{by_numbers, same_numbers, put_in}
-use Rattle.sabr_model.specs.plan.Plan.{ContactPlan}
-use Rattle.sabr_model.specs.routes.Arrival.{RouteRequest}
-use Rattle.sabr_model.specs.routes.Route.{is_route, is_path, is_prefix, by_key}
-use Rattle.sabr_model.specs.routes.Record.{RouteRecord, record_of, by_record}
-use Rattle.sabr_model.proofs.RouteLemmas.Least.{record_order}
-use Rattle.sabr_model.proofs.RouteLemmas.Listed.{key_total}
-use Rattle.sabr_frontier.specs.declared.tree.NodeId.{NodeId}
-use Rattle.sabr_frontier.specs.declared.tree.Node.{Node}
-use Rattle.sabr_frontier.specs.listing.Rising.{has, Rises}
-use Rattle.sabr_frontier.specs.listing.Tree.{numbers_after, tree}
-use Rattle.sabr_frontier.specs.listing.State.{PartState, pair_of, Member, leaves, InPairs}
-use Rattle.sabr_frontier.specs.listing.Formed.{Within}
-use Rattle.sabr_frontier.specs.listing.Listing.{next_route, carries_it, searches_for}
-use Rattle.sabr_frontier.specs.tree.Shape.{Shape, shown, part_at, part_of, prefix_of, numbers_of, route_at, route_of, front_of, IsBefore, contacts_in}
-use Rattle.sabr_frontier.specs.tree.Undo.{modify}
-use Rattle.sabr_frontier.specs.tree.Winners.{IsFirst, IsBestOf}
-use Rattle.sabr_frontier.specs.tree.Giving.{widened, passing, stands_before, wide_of, fresh_nodes, ids_from, with_block, divided_with}
-use Rattle.sabr_frontier.specs.tree.Sound.{IsTree, CanExclude, IsLent}
-use Rattle.sabr_frontier.specs.tree.Searching.{Asked}
+use Rattle.sabr_frontier.proofs.Names.{◌≡◌, ℕ, ◌-◌, ◌<◌, true, false, List, [], ◌∷◌, ◌++◌, map, length, refl, sym, ap, subst, ◌∙◌, arith, true≢false, Option, Some, None, suc, ◌+◌, take, drop, get_or, inl, inr, length-append, length-take-le, Bool, append_assoc, ◌⊎◌, slice_get_within, slice_get, option_map, option_and_then, option_map_or, find, tied_itself, nat_list_cmp_total, nat_cmp, is_lt, is_eq, by_numbers, same_numbers, put_in, ContactPlan, RouteRequest, is_route, is_path, is_prefix, by_key, RouteRecord, record_of, by_record, record_order, key_total, NodeId, Node, has, Rises, numbers_after, tree, PartState, pair_of, Member, leaves, InPairs, Within, next_route, carries_it, Shape, shown, part_at, part_of, prefix_of, numbers_of, route_at, route_of, front_of, IsBefore, contacts_in, modify, IsFirst, IsBestOf, widened, passing, wide_of, fresh_nodes, ids_from, with_block, divided_with, IsTree, CanExclude, IsLent, Asked, number_after_some, Less, Equal, Greater, take-append-drop, map-append, number_after, least_in, carry, parts_after, given, take-append_seam}
+use Rattle.sabr_frontier.specs.listing.Listing.{searches_for}
+use Rattle.sabr_frontier.specs.tree.Giving.{stands_before}
 use Rattle.sabr_frontier.proofs.TreeLemmas.ListFronts.{found_is, none_found, pairs_from_rises, front_passes, back_fails}
 use Rattle.sabr_frontier.proofs.ListingLemmas.ListMembers.{is_equal, map_map, Member-map, Member-map_cases, turned, earlier_prefix, less_from_test, Member-append_left, Member-append_right, Less-apart}
 use Rattle.sabr_frontier.proofs.ListingLemmas.NumbersAfter.{lists_exact, number_after-snoc}
@@ -35,13 +11,7 @@ use Rattle.sabr_frontier.proofs.ListingLemmas.AllRoutes.{routes_apart, by_key_ex
 use Rattle.sabr_frontier.proofs.ListingLemmas.NextPlace.{least_carried_is}
 use Rattle.sabr_frontier.proofs.TreeLemmas.ModifiedPlaces.{length-modify, get_Member, get_front, get_other, get_at_end, get_same, Member_split, member_cut, member_dropped, pair_across, pairs_back, same_node}
 use Rattle.sabr_frontier.proofs.TreeLemmas.SlotWinners.{standing_at}
-use Rattle.sabr_search.proofs.WayLemmas.Prefixes.{number_after_some}
-use Rattle.std.specs.declared.cmp.Ordering.TheVariants.{Less, Equal, Greater}
-use Rattle.std.proofs.lemmas.List.{take-append-drop, map-append}
-use Rattle.sabr_model.specs.routes.Parts.{number_after, least_in}
-use Rattle.sabr_frontier.specs.listing.Step.{carry, parts_after, given}
 use Rattle.sabr_frontier.specs.tree.Best.{best_of}
-use Rattle.std.proofs.Math.Seq.{take-append_seam}
 
 -- ---- a route cut after a prefix
 

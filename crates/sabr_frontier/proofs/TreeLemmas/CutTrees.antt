@@ -1,32 +1,8 @@
 -- A tree some of whose nodes don't carry what they might carries the same least route, as long as enough others are carried.
-use Rattle.std.proofs.Common.{◌≡◌, ◌⊎◌, inl, inr, ℕ, zero, suc, ◌+◌, ◌≤◌, ◌<◌, Bool, true, false, cond, List, [], ◌∷◌, ◌++◌, length, refl, sym, ap, subst, zero-add, ◌∙◌, arith, Some, None, map, take, drop, Option}
-use Rattle.std.specs.Prelude.{slice_get}
-use Rattle.std.specs.Option.{option_and_then, option_map_or}
-use Rattle.std.specs.Cmp.{nat_cmp_is}
-use Rattle.std.specs.Ordering.{is_lt, nat_cmp, on, ordering_then, then_cmp}
-use Rattle.std.specs.declared.cmp.Ordering.{Ordering}
-use Rattle.std.specs.declared.cmp.Ordering.TheVariants.{Less, Equal}
-use Rattle.sabr_model.specs.Order.{by_numbers}
-use Rattle.sabr_model.specs.routes.Record.{RouteRecord, by_record, by_record_total, record_key, summary_entry, summary_until}
-use Rattle.sabr_frontier.specs.declared.tree.Node.{Node}
-use Rattle.sabr_frontier.specs.declared.tree.NodeId.{NodeId}
-use Rattle.sabr_frontier.specs.tree.Undo.{modify}
-use Rattle.sabr_frontier.specs.tree.Winners.{CarriesNone, IsFirst, route_at, route_of}
+use Rattle.sabr_frontier.proofs.Names.{◌≡◌, ◌⊎◌, inl, inr, ℕ, zero, suc, ◌+◌, ◌≤◌, ◌<◌, Bool, true, false, cond, List, [], ◌∷◌, ◌++◌, length, refl, sym, ap, subst, zero-add, ◌∙◌, arith, Some, None, map, take, drop, Option, slice_get, option_and_then, option_map_or, nat_cmp_is, is_lt, nat_cmp, on, ordering_then, then_cmp, Ordering, Less, Equal, by_numbers, RouteRecord, by_record, by_record_total, record_key, summary_entry, summary_until, Node, NodeId, modify, CarriesNone, IsFirst, AreCutBy, AreFound, IsCutOf, carries_before, count_before, IsCutTree, ContactPlan, IsPlan, RouteRequest, is_route, is_path, is_prefix, Bound, is_up_to, has, Member, PartState, pair_of, leaves, IsState, leaves_in, InOrder, IsClosed, best_of, best_up_to, up_to, Shape, given_at, part_at, part_of, prefix_of, shown, stands_before, IsLent, IsTree, divided_into, divided_with, fresh_after, fresh_nodes, passing, wide_of, widened, with_block}
+use Rattle.sabr_frontier.specs.tree.Winners.{route_at, route_of}
 use Rattle.sabr_frontier.proofs.ListingLemmas.ListMembers.{less_from_test, not_below, turned, Member-map, Member-map_cases}
-use Rattle.sabr_frontier.specs.tree.PageTrees.{AreCutBy, AreFound, IsCutOf, carries_before, count_before, IsCutTree}
-use Rattle.sabr_model.specs.plan.Plan.{ContactPlan, IsPlan}
-use Rattle.sabr_model.specs.routes.Arrival.{RouteRequest}
-use Rattle.sabr_model.specs.routes.Route.{is_route, is_path, is_prefix}
-use Rattle.sabr_search.specs.declared.bound.Bound.{Bound}
-use Rattle.sabr_search.specs.questions.Bounded.{is_up_to}
-use Rattle.sabr_frontier.specs.listing.Rising.{has}
-use Rattle.sabr_frontier.specs.listing.State.{Member, PartState, pair_of, leaves}
-use Rattle.sabr_frontier.specs.listing.Listing.{IsState, leaves_in}
-use Rattle.sabr_frontier.specs.listing.Formed.{InOrder, IsClosed}
-use Rattle.sabr_frontier.specs.tree.Best.{best_of, best_up_to, up_to}
-use Rattle.sabr_frontier.specs.tree.Shape.{Shape, given_at, ids_from, part_at, part_of, prefix_of, shown, stands_before}
-use Rattle.sabr_frontier.specs.tree.Sound.{IsLent, IsTree}
-use Rattle.sabr_frontier.specs.tree.Giving.{divided_into, divided_with, fresh_after, fresh_nodes, passing, wide_of, widened, with_block}
+use Rattle.sabr_frontier.specs.tree.Shape.{ids_from}
 use Rattle.sabr_frontier.proofs.TreeLemmas.ModifiedPlaces.{Member_get, get_Member}
 use Rattle.sabr_frontier.proofs.TreeLemmas.SlotWinners.{standing_at}
 use Rattle.sabr_frontier.proofs.TreeLemmas.SoundSteps.{tree_divided}

@@ -1,39 +1,12 @@
 -- Seconds before which no route of a part is delivered, and trees and answers that were searched up to a bound.
-use Rattle.std.proofs.Common.{◌≡◌, Bool, inl, inr, ℕ, zero, suc, ◌+◌, ◌-◌, ◌<◌, ◌≤◌, ◌++◌, List, [], ◌∷◌, Some, length, take, slice_index, true, false, true≢false, refl, ap, sym, subst, ◌∙◌, arith, append_assoc, Option, drop, None, cond, ◌&&◌}
+use Rattle.sabr_frontier.proofs.Names.{◌≡◌, Bool, inl, inr, ℕ, zero, suc, ◌+◌, ◌-◌, ◌<◌, ◌≤◌, ◌++◌, List, [], ◌∷◌, Some, length, take, slice_index, true, false, true≢false, refl, ap, sym, subst, ◌∙◌, arith, append_assoc, Option, drop, None, cond, ◌&&◌, and_parts, and_from, or_parts, cases_lt, nat_tests, option_map, IsTrue, IsFalse, slice_get, unwrap_or, nat_cmp, is_eq, is_lt, by_numbers, put_in, ContactPlan, IsPlan, RouteRequest, goes_on, in_part, least_in, RouteRecord, record_of, delivery_of, is_route, least_some, IsFloor, IsSought, IsDecided, no_bound, goes_on-append, goes_on_parts, has, Asked, best_up_to, found_by, up_to, numbers_of, Shape, front_of, prefix_of, take-append-drop, take-append_seam, Node, NodeId, Member, IsTree, CarriesOnlyLeast, fresh_nodes, wide_of, widened, divided_with, IsBestWhere, modify, Bound}
 use Rattle.std.proofs.lemmas.Grind.{common_steps}
-use Rattle.std.proofs.lemmas.Bool.{and_parts, and_from, or_parts, cases_lt}
-use Rattle.std.proofs.lemmas.Bool.Decides.{nat_tests}
 use Rattle.std.specs.Cmp.{nat_cmp_total}
-use Rattle.std.specs.Option.{option_map}
-use Rattle.std.specs.Prelude.{IsTrue, IsFalse, slice_get, unwrap_or}
-use Rattle.std.specs.Ordering.{nat_cmp, is_eq, is_lt}
-use Rattle.sabr_model.specs.Order.{by_numbers, put_in}
-use Rattle.sabr_model.specs.plan.Plan.{ContactPlan, IsPlan}
-use Rattle.sabr_model.specs.routes.Arrival.{RouteRequest}
-use Rattle.sabr_model.specs.routes.Parts.{goes_on, in_part, least_in}
-use Rattle.sabr_model.specs.routes.Record.{RouteRecord, record_of}
-use Rattle.sabr_model.specs.routes.Route.{delivery_of, is_route}
-use Rattle.sabr_model.proofs.RouteLemmas.Least.{least_some}
-use Rattle.sabr_search.specs.questions.Bounded.{IsFloor, IsSought, IsDecided, no_bound}
-use Rattle.sabr_search.proofs.WayLemmas.Prefixes.{goes_on-append, goes_on_parts}
-use Rattle.sabr_frontier.specs.listing.Rising.{has}
-use Rattle.sabr_frontier.specs.tree.Searching.{Asked}
-use Rattle.sabr_frontier.specs.tree.Best.{best_of, best_up_to, found_by, up_to}
-use Rattle.sabr_frontier.specs.tree.Shape.{numbers_of, Shape, front_of, prefix_of}
+use Rattle.sabr_frontier.specs.tree.Best.{best_of}
 use Rattle.sabr_frontier.proofs.ListingLemmas.AllRoutes.{has_number}
 use Rattle.sabr_frontier.proofs.ListingLemmas.ListMembers.{has-put_in, Member-append_cases}
 use Rattle.sabr_frontier.proofs.TreeLemmas.CarryingNodes.{best_numbers, told_back, IsKnown, cut, prefix_stable}
-use Rattle.std.proofs.lemmas.List.{take-append-drop}
-use Rattle.std.proofs.Math.Seq.{take-append_seam}
-use Rattle.sabr_frontier.specs.declared.tree.Node.{Node}
-use Rattle.sabr_frontier.specs.declared.tree.NodeId.{NodeId}
-use Rattle.sabr_frontier.specs.listing.State.{Member}
-use Rattle.sabr_frontier.specs.tree.Sound.{IsTree, CarriesOnlyLeast}
-use Rattle.sabr_frontier.specs.tree.Giving.{fresh_nodes, wide_of, widened, divided_with}
-use Rattle.sabr_frontier.specs.tree.PageTrees.{IsBestWhere}
-use Rattle.sabr_frontier.specs.tree.Undo.{modify}
 use Rattle.sabr_frontier.proofs.TreeLemmas.ModifiedPlaces.{get_at_end, get_Member, modify_cases}
-use Rattle.sabr_search.specs.declared.bound.Bound.{Bound}
 use Rattle.sabr_search.specs.declared.bound.Sought.{Sought}
 use Rattle.sabr_search.specs.declared.bound.Sought.TheVariants.{Route, None as NoRoute, Beyond}
 

@@ -1,29 +1,7 @@
 -- Nodes of a leaf whose routes are found from the last to the first, until there are enough that tie with the leaf.
-use Rattle.std.proofs.Common.{◌≡◌, ℕ, zero, suc, ◌+◌, ◌<◌, ◌≤◌, ◌⊎◌, inl, inr, Bool, true, false, true≢false, cond, not, List, [], ◌∷◌, ◌++◌, length, length-append, take, drop, get_or, refl, sym, ap, subst, ◌∙◌, arith, Some, None, Option}
-use Rattle.std.specs.Prelude.{slice_get}
-use Rattle.std.specs.Option.{option_map, option_map_or}
-use Rattle.std.specs.Ordering.{is_lt, nat_cmp, ordering_reverse, ordering_then}
-use Rattle.std.specs.declared.cmp.Ordering.TheVariants.{Less, Equal, Greater}
-use Rattle.std.proofs.lemmas.Bool.{and_from}
-use Rattle.std.proofs.lemmas.Bool.Decides.{nat_tests}
-use Rattle.sabr_model.specs.Order.{by_numbers}
-use Rattle.sabr_model.specs.plan.Plan.{ContactPlan, IsPlan, has}
-use Rattle.sabr_model.specs.routes.Arrival.{RouteRequest}
-use Rattle.sabr_model.specs.routes.Parts.{goes_on, least_in}
-use Rattle.sabr_model.specs.routes.Record.{RouteRecord, by_record, record_of}
-use Rattle.sabr_model.specs.routes.Route.{by_key, delivery_of, is_route, key_of}
-use Rattle.sabr_model.proofs.RouteLemmas.Least.{least_some, record_order}
-use Rattle.sabr_model.proofs.RouteLemmas.Listed.{key_tells, key_total}
-use Rattle.sabr_search.specs.declared.bound.Bound.{Bound}
-use Rattle.sabr_search.specs.questions.Bounded.{is_up_to}
-use Rattle.sabr_search.proofs.WayLemmas.Prefixes.{goes_on_parts}
-use Rattle.sabr_frontier.specs.declared.tree.Node.{Node}
-use Rattle.sabr_frontier.specs.tree.Best.{best_of, best_up_to, up_to}
-use Rattle.sabr_frontier.specs.tree.Giving.{fresh_nodes}
-use Rattle.sabr_frontier.specs.tree.PageTrees.{AreCutBy, AreFound, IsBestWhere, IsCutOf, carries_before, carrying, count_before}
-use Rattle.sabr_frontier.specs.tree.Shape.{numbers_of}
-use Rattle.sabr_frontier.specs.tree.SmallestKeys.{carried_keys, keys_of}
-use Rattle.sabr_frontier.specs.tree.Undo.{modify}
+use Rattle.sabr_frontier.proofs.Names.{◌≡◌, ℕ, zero, suc, ◌+◌, ◌<◌, ◌≤◌, ◌⊎◌, inl, inr, Bool, true, false, true≢false, cond, not, List, [], ◌∷◌, ◌++◌, length, length-append, take, drop, get_or, refl, sym, ap, subst, ◌∙◌, arith, Some, None, Option, slice_get, option_map, option_map_or, is_lt, nat_cmp, ordering_reverse, ordering_then, Less, Equal, Greater, and_from, nat_tests, by_numbers, ContactPlan, IsPlan, RouteRequest, goes_on, least_in, RouteRecord, by_record, record_of, by_key, delivery_of, is_route, key_of, least_some, record_order, key_tells, key_total, Bound, is_up_to, goes_on_parts, Node, best_up_to, up_to, fresh_nodes, AreCutBy, AreFound, IsBestWhere, IsCutOf, carries_before, carrying, count_before, numbers_of, carried_keys, keys_of, modify}
+use Rattle.sabr_model.specs.plan.Plan.{has}
+use Rattle.sabr_frontier.specs.tree.Best.{best_of}
 use Rattle.sabr_frontier.proofs.TreeLemmas.CarryingNodes.{best_numbers, told_back}
 use Rattle.sabr_frontier.proofs.TreeLemmas.CutTrees.{cut_self}
 use Rattle.sabr_frontier.proofs.TreeLemmas.Floors.{of_longer, one_goes_on}

@@ -1,28 +1,8 @@
 -- Fronts of a list, numbers after them and among excluded ones, and where a test of a list changes its answer.
-use Rattle.std.proofs.Common.{◌≡◌, ℕ, zero, suc, ◌+◌, ◌<◌, ◌≤◌, ◌||◌, List, [], ◌∷◌, ◌++◌, length, take, drop, get_or, refl, sym, ap, ◌∙◌, arith, Option, Some, append_assoc, append-nil, drop-cons, length-take-le, take-suc, Bool, true, false, cond, not, nat_eq, filter, true≢false, subst, ltb, insert, inl, inr, None}
-use Rattle.std.proofs.lemmas.List.{drop_all}
-use Rattle.std.specs.Prelude.{is_some, slice_get, slice_index, map}
-use Rattle.sabr_model.specs.routes.Parts.{number_after}
-use Rattle.sabr_model.specs.routes.Record.{RouteRecord}
-use Rattle.sabr_frontier.specs.declared.tree.Node.{Node}
-use Rattle.sabr_frontier.specs.tree.Left.{longer_go_on}
-use Rattle.sabr_frontier.specs.tree.Giving.{fresh_nodes, widened, wide_of, passing}
+use Rattle.sabr_frontier.proofs.Names.{◌≡◌, ℕ, zero, suc, ◌+◌, ◌<◌, ◌≤◌, ◌||◌, List, [], ◌∷◌, ◌++◌, length, take, drop, get_or, refl, sym, ap, ◌∙◌, arith, Option, Some, append_assoc, append-nil, drop-cons, length-take-le, take-suc, Bool, true, false, cond, not, nat_eq, filter, true≢false, subst, ltb, insert, inl, inr, None, drop_all, is_some, slice_get, number_after, RouteRecord, Node, longer_go_on, fresh_nodes, widened, wide_of, passing, modify, including, CanExclude, excluding, carrying, or_parts, cases_Bool, nat_tests, is_eq, nat_cmp, Less, Equal, Greater, put_in, has, Rises, find, IsPartitionPoint, IsPartitionedBy, IsStrictlyIncreasing, IsTotalOrder, Ordering, Member, InPairs}
+use Rattle.std.specs.Prelude.{slice_index, map}
 use Rattle.sabr_frontier.proofs.ListingLemmas.NumbersAfter.{number_after-same}
-use Rattle.sabr_frontier.specs.tree.Undo.{modify, including}
-use Rattle.sabr_frontier.specs.tree.Sound.{CanExclude}
-use Rattle.sabr_frontier.specs.tree.PageTrees.{excluding, carrying}
 use Rattle.sabr_frontier.proofs.TreeLemmas.ModifiedPlaces.{modify_twice, modify_back, modify_same, get_same, member_at}
-use Rattle.std.proofs.lemmas.Bool.{or_parts, cases_Bool}
-use Rattle.std.proofs.lemmas.Bool.Decides.{nat_tests}
-use Rattle.std.specs.Ordering.{is_eq, nat_cmp}
-use Rattle.std.specs.declared.cmp.Ordering.TheVariants.{Less, Equal, Greater}
-use Rattle.sabr_model.specs.Order.{put_in}
-use Rattle.sabr_frontier.specs.listing.Rising.{has, Rises}
-use Rattle.std.specs.List.{find}
-use Rattle.std.specs.List.Sorted.{IsPartitionPoint, IsPartitionedBy, IsStrictlyIncreasing}
-use Rattle.std.specs.Cmp.{IsTotalOrder}
-use Rattle.std.specs.declared.cmp.Ordering.{Ordering}
-use Rattle.sabr_frontier.specs.listing.State.{Member, InPairs}
 use Rattle.sabr_frontier.proofs.ListingLemmas.ListMembers.{Below-member, Member-map}
 
 pub number_after-take : (s : List ℕ) (n : ℕ) → n < length s → number_after (take n s) s ≡ Some (get_or s n 0)

@@ -1,14 +1,7 @@
 -- Places of a list: what stands there, what is changed there, and the last one.
-use Rattle.std.proofs.Common.{◌≡◌, ℕ, ◌-◌, ◌<◌, zero, suc, List, [], ◌∷◌, ◌++◌, length, take, set, get_or, Some, refl, sym, ap, ◌∙◌, arith, length-append, take_at, ◌+◌, ◌≤◌, drop, subst, ◌⊎◌, inl, inr, None, append_assoc}
-use Rattle.std.specs.Prelude.{slice_get}
-use Rattle.sabr_frontier.specs.tree.Undo.{modify, last_item, front}
+use Rattle.sabr_frontier.proofs.Names.{◌≡◌, ℕ, ◌-◌, ◌<◌, zero, suc, List, [], ◌∷◌, ◌++◌, length, take, set, get_or, Some, refl, sym, ap, ◌∙◌, arith, length-append, ◌+◌, ◌≤◌, drop, subst, ◌⊎◌, inl, inr, None, append_assoc, slice_get, modify, last_item, front, cases_eq, slice_get_within, slice_get-get_or, take-append-drop, NodeId, Member, InPairs, ids_from}
+use Rattle.std.proofs.Common.{take_at}
 use Rattle.sabr_model.proofs.ListLemmas.Members.{push_new}
-use Rattle.std.proofs.lemmas.Bool.{cases_eq}
-use Rattle.std.proofs.lemmas.Option.{slice_get_within, slice_get-get_or}
-use Rattle.std.proofs.lemmas.List.{take-append-drop}
-use Rattle.sabr_frontier.specs.declared.tree.NodeId.{NodeId}
-use Rattle.sabr_frontier.specs.listing.State.{Member, InPairs}
-use Rattle.sabr_frontier.specs.tree.Giving.{ids_from}
 use Rattle.sabr_frontier.proofs.ListingLemmas.ListMembers.{Member-append_left, Member-append_right, Member-append_cases}
 
 -- ---- what stands at a place of a list of nodes, and what is changed there

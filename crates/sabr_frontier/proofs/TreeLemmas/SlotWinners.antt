@@ -1,17 +1,7 @@
 -- What the winners of slots are.
-use Rattle.std.proofs.Common.{◌≡◌, ◌≢◌, ℕ, zero, suc, ◌+◌, ◌-◌, ◌*◌, ◌/◌, ◌<◌, ◌≤◌, true, false, ◌⊎◌, inl, inr, List, [], ◌∷◌, ◌++◌, length, set, Option, Some, None, refl, sym, ap, subst, ◌∙◌, arith, true≢false, length-append, length-set}
-use Rattle.std.proofs.lemmas.Option.{slice_get_within}
-use Rattle.std.specs.Prelude.{slice_get}
-use Rattle.std.specs.Option.{option_and_then}
-use Rattle.std.specs.Ordering.{is_lt}
-use Rattle.std.specs.declared.cmp.Ordering.TheVariants.{Less}
-use Rattle.std.proofs.lemmas.Bool.{cases_eq, cases_lt}
-use Rattle.std.proofs.lemmas.List.{get_or-set_same, get_or-set_other, get_or_append_left, get_or_at}
-use Rattle.sabr_model.specs.routes.Record.{RouteRecord, by_record, by_record_total}
-use Rattle.sabr_frontier.specs.declared.tree.NodeId.{NodeId}
-use Rattle.sabr_frontier.specs.declared.tree.Node.{Node}
-use Rattle.sabr_frontier.specs.tree.Shape.{route_at}
-use Rattle.sabr_frontier.specs.tree.Winners.{route_of, winner_at, is_lesser, IsNoGreater, IsBestOf, IsFirst, CarriesNone, IsLesser, IsWinner, IsWon, AreWinners, low, high, IsAbove, AreOthersWinners, IsSiftedUp, IsBeside}
+use Rattle.sabr_frontier.proofs.Names.{◌≡◌, ◌≢◌, ℕ, zero, suc, ◌+◌, ◌-◌, ◌*◌, ◌/◌, ◌<◌, ◌≤◌, true, false, ◌⊎◌, inl, inr, List, [], ◌∷◌, ◌++◌, length, set, Option, Some, None, refl, sym, ap, subst, ◌∙◌, arith, true≢false, length-append, slice_get_within, slice_get, option_and_then, is_lt, Less, cases_eq, cases_lt, get_or-set_same, get_or-set_other, get_or_append_left, get_or_at, RouteRecord, by_record, by_record_total, NodeId, Node, route_at, winner_at, is_lesser, IsNoGreater, IsBestOf, IsFirst, CarriesNone, IsLesser, IsWinner, IsWon, AreWinners, low, high, IsAbove, AreOthersWinners, IsSiftedUp, IsBeside}
+use Rattle.std.proofs.Common.{length-set}
+use Rattle.sabr_frontier.specs.tree.Winners.{route_of}
 use Rattle.sabr_frontier.proofs.ListingLemmas.ListMembers.{turned, less_from_test, not_below, not_less_itself}
 
 -- ---- what a node carries

@@ -1,24 +1,10 @@
 -- A sound tree stays sound where a node's route is given, and the undo of that gives the tree back.
-use Rattle.std.proofs.Common.{◌≡◌, ℕ, ◌+◌, ◌<◌, nat_lt, List, [], ◌∷◌, ◌++◌, length, take, drop, refl, sym, ap, subst, ◌∙◌, ◌⊎◌, inl, inr, arith, Option, Some, append_assoc, length-append, slice_index, take_at, Bool, true, cond, filter, take-append-drop, append-nil, map, None}
-use Rattle.std.specs.Prelude.{slice_get, slice_index_or, not, nat_eq}
-use Rattle.std.proofs.lemmas.Bool.{cases_lt, lt-ltb}
-use Rattle.std.proofs.lemmas.Option.{get_or_from_slice_get}
-use Rattle.sabr_model.specs.Order.{put_in, by_numbers}
-use Rattle.sabr_model.specs.plan.Plan.{ContactPlan, IsPlan}
-use Rattle.sabr_model.specs.routes.Arrival.{RouteRequest}
-use Rattle.sabr_model.specs.routes.Route.{is_route, is_path, is_prefix}
-use Rattle.sabr_model.specs.routes.Parts.{least_in}
-use Rattle.sabr_model.specs.routes.Record.{RouteRecord, record_of}
-use Rattle.sabr_model.proofs.RouteLemmas.Prefixes.{empty_is_prefix}
-use Rattle.sabr_frontier.specs.declared.tree.NodeId.{NodeId}
-use Rattle.sabr_frontier.specs.declared.tree.Node.{Node}
-use Rattle.sabr_frontier.specs.listing.State.{Member}
-use Rattle.sabr_frontier.specs.listing.Listing.{IsState, leaves_in, state_at}
-use Rattle.sabr_frontier.specs.tree.Shape.{Shape, shown, part_at, prefix_of, numbers_of, route_at, root}
-use Rattle.sabr_frontier.specs.tree.Undo.{modify, undone, CanUndo, IsIndexed, given_back, undone_by}
+use Rattle.sabr_frontier.proofs.Names.{◌≡◌, ℕ, ◌+◌, ◌<◌, nat_lt, List, [], ◌∷◌, ◌++◌, length, take, drop, refl, sym, ap, subst, ◌∙◌, ◌⊎◌, inl, inr, arith, Option, Some, append_assoc, length-append, slice_index, Bool, true, cond, filter, append-nil, map, None, slice_get, slice_index_or, cases_lt, lt-ltb, get_or_from_slice_get, put_in, by_numbers, ContactPlan, IsPlan, RouteRequest, is_route, is_path, is_prefix, least_in, RouteRecord, record_of, empty_is_prefix, NodeId, Node, Member, IsState, leaves_in, Shape, shown, part_at, prefix_of, numbers_of, root, modify, undone, CanUndo, IsIndexed, given_back, undone_by, passing, widened, wide_of, fresh_nodes, ids_from, divided_with, changed_by, with_block, IsTree, IsLent, AreGiven, nat_tests, filter-append, option_map, seen_part}
+use Rattle.std.proofs.Common.{take_at, take-append-drop}
+use Rattle.std.specs.Prelude.{not, nat_eq}
+use Rattle.sabr_frontier.specs.listing.Listing.{state_at}
 use Rattle.sabr_frontier.specs.tree.Best.{best_of}
-use Rattle.sabr_frontier.specs.tree.Giving.{passing, stands_before, widened, wide_of, fresh_nodes, ids_from, divided_with, changed_by, with_block}
-use Rattle.sabr_frontier.specs.tree.Sound.{IsTree, IsLent, AreGiven}
+use Rattle.sabr_frontier.specs.tree.Giving.{stands_before}
 use Rattle.sabr_frontier.proofs.ListingLemmas.ListMembers.{filter_none, Member-append_left, Member-append_right, Member-append_cases}
 use Rattle.sabr_frontier.proofs.ListingLemmas.ClosedTrees.{In-put_in, put_in-In, In_Member, Member_In}
 use Rattle.sabr_frontier.proofs.ListingLemmas.FormedSteps.{formed_after, leaves_after, formed_start}
@@ -28,11 +14,7 @@ use Rattle.sabr_frontier.proofs.TreeLemmas.ModifiedPlaces.{length-modify, last_i
 use Rattle.sabr_frontier.proofs.TreeLemmas.CarryingNodes.{lent_stable, node_within, here, here_in, cut, can_exclude, record_is, told_back, shown_divided, best_numbers}
 use Rattle.sabr_frontier.proofs.TreeLemmas.IndexedNodes.{tree_indexed}
 use Rattle.sabr_frontier.proofs.TreeLemmas.Floors.{divided_least}
-use Rattle.std.proofs.lemmas.Bool.Decides.{nat_tests}
-use Rattle.std.proofs.lemmas.List.Elements.{filter-append}
 use Rattle.sabr_frontier.specs.declared.tree.Entry.{Entry}
-use Rattle.std.specs.Option.{option_map}
-use Rattle.sabr_frontier.specs.session.Session.{seen_part}
 use Rattle.sabr_frontier.specs.session.Views.{seen_at, seen_node}
 
 -- ---- taking a route and undoing it give back the tree, on the nose

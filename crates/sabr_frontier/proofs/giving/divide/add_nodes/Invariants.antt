@@ -1,5 +1,4 @@
-use Rattle.std.proofs.Common.{◌≡◌, ◌+◌, ◌≤◌, ◌++◌, length, take, drop, None, vec_len, vec_capacity}
-use Rattle.sabr_frontier.specs.tree.Giving.{fresh_nodes}
+use Rattle.sabr_frontier.proofs.Names.{◌≡◌, ◌+◌, ◌≤◌, ◌++◌, length, take, drop, None, vec_len, vec_capacity, fresh_nodes}
 use Rattle.sabr_frontier.proofs.giving.divide.add_nodes.Given as goal
 
 abbrev pub invariant-loop-count : goal.invariant-loop-count

@@ -1,27 +1,12 @@
-use Rattle.std.proofs.Common.{[], false, inl, inr, None, Option, ◌-◌, ◌≡◌, ◌+◌, ◌<◌, ◌++◌, get_or, slice_index, length, length-take-le, take, drop, arith, sym, ap, subst, ◌∙◌, ℕ, List, Some}
+use Rattle.sabr_frontier.proofs.Names.{[], false, inl, inr, None, Option, ◌-◌, ◌≡◌, ◌+◌, ◌<◌, ◌++◌, get_or, slice_index, length, length-take-le, take, drop, arith, sym, ap, subst, ◌∙◌, ℕ, List, Some, is_lt, nat_cmp, slice_get, IsStrictlyIncreasing, take_all, Node, Rises, including, modify, AreFound, IsBestWhere, excluding, fresh_nodes, Asked, best_for, ContactPlan, IsPlan, RouteRequest, by_key, CanExclude, IsFloor}
 use Rattle.std.specs.Cmp.{nat_cmp_total}
-use Rattle.std.specs.Ordering.{is_lt, nat_cmp}
-use Rattle.std.specs.Prelude.{slice_get}
-use Rattle.std.specs.List.Sorted.{IsStrictlyIncreasing}
-use Rattle.std.proofs.lemmas.List.{take_all}
 use Rattle.sabr_model.proofs.ListLemmas.Answered.{on_err}
-use Rattle.sabr_frontier.specs.declared.tree.Node.{Node}
-use Rattle.sabr_frontier.specs.listing.Rising.{Rises}
-use Rattle.sabr_frontier.specs.tree.Undo.{including, modify}
-use Rattle.sabr_frontier.specs.tree.PageTrees.{AreFound, IsBestWhere, excluding}
-use Rattle.sabr_frontier.specs.tree.Giving.{fresh_nodes}
-use Rattle.sabr_frontier.specs.tree.Searching.{Asked, best_for}
-use Rattle.sabr_model.specs.plan.Plan.{ContactPlan, IsPlan}
-use Rattle.sabr_model.specs.routes.Arrival.{RouteRequest}
-use Rattle.sabr_model.specs.routes.Route.{by_key}
 use Rattle.sabr_frontier.proofs.TreeLemmas.Floors.{OfPart, floor_wide, of_after}
 use Rattle.sabr_frontier.proofs.TreeLemmas.ModifiedPlaces.{get_there, length-modify, within_get}
 use Rattle.sabr_frontier.proofs.TreeLemmas.ListFronts.{increasing, excluded_there, included, including_none}
 use Rattle.sabr_frontier.proofs.ListingLemmas.AllRoutes.{beginning_fits}
 use Rattle.sabr_frontier.proofs.ListingLemmas.ListMembers.{Rises-put_in}
 use Rattle.sabr_frontier.proofs.giving.divide.divide.Goals as goal
-use Rattle.sabr_frontier.specs.tree.Sound.{CanExclude}
-use Rattle.sabr_search.specs.questions.Bounded.{IsFloor}
 
 module _ {A : Type 0} (nodes : List (Node A)) {i : ℕ} {s : List ℕ} (can : (n : Node A) → slice_get nodes i ≡ Some n → CanExclude n s) (l : i < length nodes) where
   -- if the number isn't excluded yet, the nodes stay

@@ -1,5 +1,4 @@
-use Rattle.std.proofs.Common.{arith, ℕ, List, ap, ◌∙◌, set}
-use Rattle.sabr_frontier.specs.tree.PageTrees.{excluding}
+use Rattle.sabr_frontier.proofs.Names.{arith, ℕ, List, ap, ◌∙◌, set, excluding}
 use Rattle.sabr_frontier.proofs.TreeLemmas.ModifiedPlaces.{set-modify, get_there}
 use Rattle.sabr_frontier.proofs.giving.divide.exclude_next.Goals as goal
 

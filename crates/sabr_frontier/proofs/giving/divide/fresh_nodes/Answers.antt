@@ -1,12 +1,4 @@
-use Rattle.std.proofs.Common.{◌≡◌, ◌+◌, ◌-◌, ◌≤◌, ◌<◌, ◌⊎◌, ◌++◌, ◌∷◌, [], None, Some, Option, List, ℕ, suc, inl, inr, take, drop, get_or, length, length-append, length-drop, refl, ap, subst, ◌∙◌, arith}
-use Rattle.sabr_model.specs.plan.Plan.{IsPlan}
-use Rattle.sabr_model.specs.routes.Record.{RouteRecord}
-use Rattle.sabr_search.specs.declared.bound.Bound.{Bound}
-use Rattle.sabr_frontier.specs.declared.tree.Node.{Node}
-use Rattle.sabr_frontier.specs.tree.Searching.{Asked, best_for}
-use Rattle.sabr_frontier.specs.tree.Giving.{fresh_nodes}
-use Rattle.sabr_frontier.specs.tree.PageTrees.{IsBestWhere, carrying}
-use Rattle.sabr_frontier.specs.tree.Undo.{modify}
+use Rattle.sabr_frontier.proofs.Names.{◌≡◌, ◌+◌, ◌-◌, ◌≤◌, ◌<◌, ◌⊎◌, ◌++◌, ◌∷◌, [], None, Some, Option, List, ℕ, suc, inl, inr, take, drop, get_or, length, length-append, length-drop, refl, ap, subst, ◌∙◌, arith, IsPlan, RouteRecord, Bound, Node, Asked, best_for, fresh_nodes, IsBestWhere, carrying, modify}
 use Rattle.sabr_frontier.proofs.TreeLemmas.Floors.{floor_on}
 use Rattle.sabr_frontier.proofs.TreeLemmas.FoundNodes.{IsSearchedFrom, found_enough, nodes_on, none_found, search_on, unsearched}
 use Rattle.sabr_frontier.proofs.TreeLemmas.ListFronts.{length_fresh}

@@ -1,6 +1,4 @@
-use Rattle.std.proofs.Common.{◌≡◌, ◌+◌, ◌-◌, ◌≤◌, ◌++◌, length, take, drop, vec_len}
-use Rattle.sabr_frontier.specs.tree.Searching.{best_for}
-use Rattle.sabr_frontier.specs.tree.Giving.{fresh_nodes}
+use Rattle.sabr_frontier.proofs.Names.{◌≡◌, ◌+◌, ◌-◌, ◌≤◌, ◌++◌, length, take, drop, vec_len, best_for, fresh_nodes}
 use Rattle.sabr_frontier.proofs.TreeLemmas.FoundNodes.{IsSearchedFrom, unsearched}
 use Rattle.sabr_frontier.proofs.giving.divide.fresh_nodes.Given as goal
 

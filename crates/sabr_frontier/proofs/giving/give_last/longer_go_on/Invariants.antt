@@ -1,6 +1,4 @@
-use Rattle.std.proofs.Common.{◌≡◌, ◌+◌, None, take, drop}
-use Rattle.sabr_frontier.specs.tree.Searching.{best_for}
-use Rattle.sabr_frontier.specs.tree.Left.{longer_go_on}
+use Rattle.sabr_frontier.proofs.Names.{◌≡◌, ◌+◌, None, take, drop, best_for, longer_go_on}
 use Rattle.sabr_frontier.proofs.giving.give_last.longer_go_on.Given as goal
 
 abbrev pub invariant-loop-count : goal.invariant-loop-count

@@ -1,13 +1,5 @@
-use Rattle.std.proofs.Common.{◌≡◌, ℕ, List, ◌+◌, ◌||◌, None, false, arith, slice_index, take, drop, subst, sym, ap, ◌∙◌}
-use Rattle.std.specs.Prelude.{IfOk, is_some}
+use Rattle.sabr_frontier.proofs.Names.{◌≡◌, ℕ, List, ◌+◌, ◌||◌, None, false, arith, slice_index, take, drop, subst, sym, ap, ◌∙◌, IfOk, is_some, IsStrictlyIncreasing, IsPlan, TabledPlan, IsFloor, GoesOtherwise, Searching, best_for, longer_go_on, part_goes_on, wide_of}
 use Rattle.std.specs.Cmp.{nat_cmp_total}
-use Rattle.std.specs.List.Sorted.{IsStrictlyIncreasing}
-use Rattle.sabr_model.specs.plan.Plan.{IsPlan, TabledPlan}
-use Rattle.sabr_search.specs.questions.Bounded.{IsFloor}
-use Rattle.sabr_search.specs.questions.Detours.{GoesOtherwise}
-use Rattle.sabr_frontier.specs.tree.Searching.{Searching, best_for}
-use Rattle.sabr_frontier.specs.tree.Left.{longer_go_on, part_goes_on}
-use Rattle.sabr_frontier.specs.tree.Giving.{wide_of}
 use Rattle.sabr_frontier.proofs.ListingLemmas.ListMembers.{Rises-put_in}
 use Rattle.sabr_frontier.proofs.TreeLemmas.Floors.{floor_on, floor_wide, late, of_after}
 use Rattle.sabr_frontier.proofs.TreeLemmas.ListFronts.{increasing}

@@ -1,6 +1,4 @@
-use Rattle.std.proofs.Common.{◌≡◌, ◌+◌, ◌++◌, ◌∷◌, [], take, arith, sym, ap, ◌∙◌}
-use Rattle.std.proofs.lemmas.List.{take_all, take_more}
-use Rattle.sabr_model.specs.routes.Record.{RouteRecord}
+use Rattle.sabr_frontier.proofs.Names.{◌≡◌, ◌+◌, ◌++◌, ◌∷◌, [], take, arith, sym, ap, ◌∙◌, take_all, take_more, RouteRecord}
 use Rattle.sabr_frontier.proofs.giving.give_page.copies.Goals as goal
 
 pub loop-place-preserved : goal.loop-place-preserved

@@ -1,11 +1,6 @@
-use Rattle.std.proofs.Common.{◌≡◌, [], ◌∷◌, ◌++◌, ap, sym, subst, ◌∙◌, Some, None, Err}
-use Rattle.std.proofs.lemmas.Bool.{and_parts}
+use Rattle.sabr_frontier.proofs.Names.{◌≡◌, [], ◌∷◌, ◌++◌, ap, sym, subst, ◌∙◌, Some, None, Err, and_parts, option_copied, Loaded, rise_strictly, with_part, part_with, IsPartial, is_after_last, loaded, partial_shape_of}
 use Rattle.std.proofs.lemmas.Result.{err_from_is_err_and}
-use Rattle.std.specs.Option.{option_copied}
 use Rattle.sabr_frontier.specs.declared.loader.load_fault.LoadFault.TheVariants as load
-use Rattle.sabr_frontier.specs.loading.Loading.{Loaded, rise_strictly, with_part}
-use Rattle.sabr_frontier.specs.listing.State.{part_with}
-use Rattle.sabr_frontier.specs.loading.Partial.{IsPartial, is_after_last, loaded, partial_shape_of}
 use Rattle.sabr_frontier.proofs.LoadingLemmas.LoadedParts.{partial_more, carry_accepted, carry_told, not_refused, order_refused}
 use Rattle.sabr_frontier.proofs.loader.Loader.add_part.Goals as goal
 

@@ -1,12 +1,6 @@
-use Rattle.std.proofs.Common.{◌≡◌, ◌∙◌, List, ℕ, Result, Ok, Err, ap, sym, subst}
-use Rattle.std.specs.Prelude.{IfErr}
+use Rattle.sabr_frontier.proofs.Names.{◌≡◌, ◌∙◌, List, ℕ, Ok, Err, ap, sym, subst, IfErr, TabledPlan, LoadFault, NoMemory, IsState, IsRefusedBy, Loaded, state_with, IsPausedOver, seen_over}
+use Rattle.std.proofs.Common.{Result}
 use Rattle.std.specs.Result.{IsErrAnd}
-use Rattle.sabr_model.specs.plan.Plan.{TabledPlan}
-use Rattle.sabr_frontier.specs.declared.loader.load_fault.LoadFault.{LoadFault}
-use Rattle.sabr_frontier.specs.declared.loader.load_fault.LoadFault.TheVariants.{NoMemory}
-use Rattle.sabr_frontier.specs.listing.Listing.{IsState}
-use Rattle.sabr_frontier.specs.loading.Loading.{IsRefusedBy, Loaded, state_with}
-use Rattle.sabr_frontier.specs.session.Paused.{IsPausedOver, seen_over}
 use Rattle.sabr_frontier.proofs.loader.Loader.finish.Goals as goal
 
 -- only memory can be refused

@@ -1,45 +1,14 @@
-use Rattle.std.proofs.Common.{◌≡◌, ℕ, List, true, Ok, Err, ap, sym, subst, ◌∙◌, suc, ◌+◌, ◌≤◌, Bool, false, cond, not, [], ◌∷◌, ◌++◌, map, flat_map, take, length, refl, ◌⊎◌, inl, inr, arith, true≢false, Option, Some, append_assoc, length-append}
-use Rattle.std.specs.Prelude.{IfErr, Option, Result, slice_get}
+use Rattle.sabr_frontier.proofs.Names.{◌≡◌, ℕ, List, true, Ok, Err, ap, sym, subst, ◌∙◌, suc, ◌+◌, ◌≤◌, Bool, false, cond, not, [], ◌∷◌, ◌++◌, map, flat_map, take, length, refl, ◌⊎◌, inl, inr, arith, true≢false, Option, Some, append_assoc, length-append, IfErr, Result, slice_get, TabledPlan, ContactPlan, RouteRequest, RouteRecord, record_of, Calls, LoadFault, NoMemory, IsPausedOver, seen_over, IsState, leaves_in, IsClosedState, IsCounted, IsRefusedBy, Loaded, session_with, state_with, session_over, shown, Shape, front_of, numbers_of, part_at, part_of, prefix_of, IsTree, AreGiven, IsLent, IsLastPlace, IsLoader, partial_shape_of, is_complete, loaded, loaded_tree, PartialShape, IsAnswered, IsGiven, IsPartial, nodes_of, onward, Expects, cases_Bool, option_map, nat_cmp, Less, nat_list_cmp_total, nat_cmp_total, length-map, nil_from_length, map-append, by_numbers, number_after, is_path, is_route, NodeId, Node, has, Rises, set_of, PartState, pair_of, Member, leaves, leaves_of, InPairs, InOrder, ids_from, take-append_seam, number_after_some}
+use Rattle.std.specs.Prelude.{Option}
 use Rattle.std.specs.Result.{IsErrAnd}
-use Rattle.sabr_model.specs.plan.Plan.{TabledPlan, ContactPlan}
-use Rattle.sabr_model.specs.routes.Arrival.{RouteRequest}
-use Rattle.sabr_model.specs.routes.Record.{RouteRecord, record_of}
-use Rattle.sabr_search.specs.questions.Calls.{Calls}
 use Rattle.sabr_frontier.specs.declared.loader.partial_tree.PartialTree.{PartialTree}
-use Rattle.sabr_frontier.specs.declared.loader.load_fault.LoadFault.{LoadFault}
-use Rattle.sabr_frontier.specs.declared.loader.load_fault.LoadFault.TheVariants.{NoMemory}
-use Rattle.sabr_frontier.specs.session.Paused.{IsPausedOver, seen_over}
-use Rattle.sabr_frontier.specs.listing.Listing.{IsState, leaves_in}
-use Rattle.sabr_frontier.specs.loading.Loading.{IsClosedState, IsCounted, IsRefusedBy, Loaded, session_with, state_with}
-use Rattle.sabr_frontier.specs.session.Session.{session_over}
-use Rattle.sabr_frontier.specs.tree.Shape.{shown, Shape, front_of, numbers_of, part_at, part_of, prefix_of}
-use Rattle.sabr_frontier.specs.tree.Sound.{IsTree, AreGiven, IsLent}
-use Rattle.sabr_frontier.specs.loading.Partial.{IsLastPlace, IsLoader, partial_shape_of, is_complete, loaded, loaded_tree, PartialShape, IsAnswered, IsGiven, IsPartial, nodes_of, onward, Expects}
 use Rattle.sabr_frontier.proofs.LoadingLemmas.LoadedParts.{complete_closed, incomplete_open, complete_expects}
 use Rattle.sabr_frontier.proofs.TreeLemmas.IndexedNodes.{tree_indexed}
-use Rattle.std.proofs.lemmas.Bool.{cases_Bool}
-use Rattle.std.specs.Option.{option_map}
-use Rattle.std.specs.Ordering.{nat_cmp}
-use Rattle.std.specs.declared.cmp.Ordering.TheVariants.{Less}
-use Rattle.std.proofs.lemmas.Cmp.{nat_list_cmp_total, nat_cmp_total}
-use Rattle.std.proofs.lemmas.List.{length-map, nil_from_length, map-append}
-use Rattle.sabr_model.specs.Order.{by_numbers}
-use Rattle.sabr_model.specs.routes.Parts.{number_after}
-use Rattle.sabr_model.specs.routes.Route.{is_path, is_route}
-use Rattle.sabr_frontier.specs.declared.tree.NodeId.{NodeId}
-use Rattle.sabr_frontier.specs.declared.tree.Node.{Node}
-use Rattle.sabr_frontier.specs.listing.Rising.{has, Rises}
-use Rattle.sabr_frontier.specs.listing.Tree.{set_of}
-use Rattle.sabr_frontier.specs.listing.State.{PartState, pair_of, Member, leaves, leaves_of, InPairs}
-use Rattle.sabr_frontier.specs.listing.Formed.{InOrder}
-use Rattle.sabr_frontier.specs.tree.Giving.{ids_from}
 use Rattle.sabr_frontier.proofs.ListingLemmas.ListMembers.{pairs_two, length-put_in, Member-map, Member-map_cases, Member-filter_cases, Member-flat_map_cases, Below-member, Less-apart}
 use Rattle.sabr_frontier.proofs.ListingLemmas.NumbersAfter.{number_after-snoc, number_after-of_longer}
 use Rattle.sabr_frontier.proofs.ListingLemmas.ClosedTrees.{In_Member, Member_In, set_of_has, has_set_of, last_same, Pairs, not_empty}
 use Rattle.sabr_frontier.proofs.TreeLemmas.CarryingNodes.{front_none, numbers_back, told_back}
 use Rattle.sabr_frontier.proofs.TreeLemmas.ModifiedPlaces.{get_at_end, ids_cases, ids_has}
-use Rattle.std.proofs.Math.Seq.{take-append_seam}
-use Rattle.sabr_search.proofs.WayLemmas.Prefixes.{number_after_some}
 use Rattle.sabr_frontier.proofs.loader.Loader.finish_paused.Goals as goal
 
 -- ---- the tree of closed parts is sound, and represents the state that they make

@@ -1,5 +1,4 @@
-use Rattle.std.proofs.Common.{[], sym, subst}
-use Rattle.sabr_frontier.specs.loading.Partial.{IsPartial, partial_shape_of}
+use Rattle.sabr_frontier.proofs.Names.{[], sym, subst, IsPartial, partial_shape_of}
 use Rattle.sabr_frontier.proofs.LoadingLemmas.LoadedParts.{nothing_yet_is}
 use Rattle.sabr_frontier.proofs.loader.Loader.new.Goals as goal
 

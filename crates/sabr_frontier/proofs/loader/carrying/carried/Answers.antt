@@ -1,15 +1,7 @@
-use Rattle.std.proofs.Common.{◌&&◌, ◌∙◌, true, sym, ap, subst, ◌≡◌, ℕ, ◌<◌, List, [], ◌∷◌, ◌++◌, length, take, refl, arith, length-append}
-use Rattle.std.specs.Option.{option_copied, option_map_or}
-use Rattle.std.specs.Prelude.{IfSome}
-use Rattle.sabr_model.specs.plan.Plan.{ContactPlan}
-use Rattle.sabr_model.specs.routes.Arrival.{RouteRequest}
-use Rattle.sabr_model.specs.routes.Parts.{goes_on, in_part}
+use Rattle.sabr_frontier.proofs.Names.{◌&&◌, ◌∙◌, true, sym, ap, subst, ◌≡◌, ℕ, ◌<◌, List, [], ◌∷◌, ◌++◌, length, take, refl, arith, length-append, option_copied, option_map_or, IfSome, ContactPlan, RouteRequest, goes_on, in_part, take_at, IsPathEnd, number_after_some}
 use Rattle.sabr_model.proofs.RouteLemmas.Faults.{fault_is_no_route}
-use Rattle.std.proofs.lemmas.List.{take_at}
 use Rattle.sabr_frontier.specs.declared.loader.path_end.PathEnd.{PathEnd}
-use Rattle.sabr_frontier.specs.loading.Partial.{IsPathEnd}
 use Rattle.sabr_frontier.proofs.ListingLemmas.AllRoutes.{goes_on_within}
-use Rattle.sabr_search.proofs.WayLemmas.Prefixes.{number_after_some}
 use Rattle.sabr_frontier.proofs.loader.carrying.carried.Goals as goal
 use Rattle.sabr_frontier.proofs.loader.carrying.carried.Goals.{in-Some-end, in-None}
 

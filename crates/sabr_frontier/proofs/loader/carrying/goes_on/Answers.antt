@@ -1,5 +1,4 @@
-use Rattle.std.proofs.Common.{◌∙◌, sym, ap, length, take, not}
-use Rattle.std.specs.Cmp.Lexicographic.{same_text, other_text}
+use Rattle.sabr_frontier.proofs.Names.{◌∙◌, sym, ap, length, take, not, same_text, other_text}
 use Rattle.sabr_frontier.proofs.ListingLemmas.NumbersAfter.{begins_otherwise, ends_there, goes_there}
 use Rattle.sabr_frontier.proofs.loader.carrying.goes_on.Goals as goal
 

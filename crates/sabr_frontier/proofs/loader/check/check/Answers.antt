@@ -1,7 +1,4 @@
-use Rattle.std.proofs.Common.{◌≡◌, ℕ, List, [], ◌∷◌, ◌++◌, take, get_or, true, map, ap, sym, subst, ◌∙◌, true≢false}
-use Rattle.std.proofs.lemmas.List.{take_all}
-use Rattle.sabr_model.specs.routes.Route.{is_path}
-use Rattle.sabr_frontier.specs.loading.Partial.{AreSteps, step_of, AllGoOn, IsChecked}
+use Rattle.sabr_frontier.proofs.Names.{◌≡◌, ℕ, List, [], ◌∷◌, ◌++◌, take, get_or, true, map, ap, sym, subst, ◌∙◌, true≢false, take_all, is_path, AreSteps, step_of, AllGoOn, IsChecked}
 use Rattle.sabr_frontier.proofs.LoadingLemmas.LoadedParts.{checked_more, number_in, paths_more}
 use Rattle.sabr_frontier.proofs.loader.check.check.Goals as goal
 

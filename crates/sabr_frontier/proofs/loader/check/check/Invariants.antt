@@ -1,5 +1,4 @@
-use Rattle.std.proofs.Common.{take}
-use Rattle.sabr_frontier.specs.loading.Partial.{AllGoOn, IsChecked}
+use Rattle.sabr_frontier.proofs.Names.{take, AllGoOn, IsChecked}
 use Rattle.sabr_frontier.proofs.loader.check.check.Given as goal
 
 abbrev pub invariant-loop-number : goal.invariant-loop-number

@@ -1,11 +1,4 @@
-use Rattle.std.proofs.Common.{◌≡◌, ◌+◌, ◌++◌, ℕ, true≢false, ◌∷◌, [], inl, inr, length, take, sym, ap, subst, ◌∙◌, arith}
-use Rattle.std.specs.Prelude.{◌==◌}
-use Rattle.std.specs.Cmp.Lexicographic.{same_text, other_text}
-use Rattle.std.proofs.lemmas.List.{take_more, take_all}
-use Rattle.std.proofs.lemmas.Bool.Decides.{nat_tests}
-use Rattle.sabr_model.specs.routes.Record.{RouteRecord}
-use Rattle.sabr_frontier.specs.tree.Shape.{contacts_in, numbers_of}
-use Rattle.sabr_frontier.specs.listing.State.{Member}
+use Rattle.sabr_frontier.proofs.Names.{◌≡◌, ◌+◌, ◌++◌, ℕ, true≢false, ◌∷◌, [], inl, inr, length, take, sym, ap, subst, ◌∙◌, arith, ◌==◌, same_text, other_text, take_more, take_all, nat_tests, RouteRecord, contacts_in, numbers_of, Member}
 use Rattle.sabr_frontier.proofs.ListingLemmas.ListMembers.{Member-append_cases}
 use Rattle.sabr_frontier.proofs.TreeLemmas.ModifiedPlaces.{get_there, get_Member}
 use Rattle.sabr_frontier.proofs.loader.partial_tree.last_place.Goals as goal

@@ -1,6 +1,4 @@
-use Rattle.std.proofs.Common.{◌≡◌, take}
-use Rattle.sabr_model.specs.routes.Record.{RouteRecord}
-use Rattle.sabr_frontier.specs.listing.State.{Member}
+use Rattle.sabr_frontier.proofs.Names.{◌≡◌, take, RouteRecord, Member}
 use Rattle.sabr_frontier.proofs.loader.partial_tree.last_place.Given as goal
 
 abbrev pub invariant-loop-i : goal.invariant-loop-i

@@ -1,8 +1,5 @@
-use Rattle.std.proofs.Common.{◌≡◌, ◌-◌, ◌<◌, ◌∷◌, length, reverse, arith, ap, sym, subst, ◌∙◌}
-use Rattle.sabr_frontier.specs.tree.Shape.{Shape, shape_of, shown}
-use Rattle.sabr_frontier.specs.session.Session.{AreStarts, IsSound, Seen, former_of}
+use Rattle.sabr_frontier.proofs.Names.{◌≡◌, ◌-◌, ◌<◌, ◌∷◌, length, reverse, arith, ap, sym, subst, ◌∙◌, Shape, shape_of, shown, AreStarts, IsSound, Seen, former_of, IsIndexBack, undone_times}
 use Rattle.sabr_frontier.proofs.SessionLemmas.Pages.{sound_undos, sound_back, last_first}
-use Rattle.sabr_frontier.specs.tree.Undo.{IsIndexBack, undone_times}
 use Rattle.sabr_frontier.proofs.TreeLemmas.MergedIndex.{index_back}
 use Rattle.sabr_frontier.proofs.session.Session.back.Goals as goal
 

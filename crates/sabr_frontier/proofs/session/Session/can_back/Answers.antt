@@ -1,8 +1,4 @@
-use Rattle.std.proofs.Common.{◌≡◌, length, reverse, arith, ap, sym, ◌∙◌}
-use Rattle.std.proofs.lemmas.List.{length-reverse}
-use Rattle.std.proofs.lemmas.Bool.Decides.{nat_tests}
-use Rattle.sabr_frontier.specs.tree.Shape.{shape_of}
-use Rattle.sabr_frontier.specs.session.Session.{Seen}
+use Rattle.sabr_frontier.proofs.Names.{◌≡◌, length, reverse, arith, ap, sym, ◌∙◌, length-reverse, nat_tests, shape_of, Seen}
 use Rattle.sabr_frontier.proofs.SessionLemmas.Pages.{length-former}
 use Rattle.sabr_frontier.proofs.session.Session.can_back.Goals as goal
 

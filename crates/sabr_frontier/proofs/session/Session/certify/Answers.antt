@@ -1,10 +1,5 @@
-use Rattle.std.proofs.Common.{◌+◌, ◌≤◌, ap, length, sym, subst, arith, ◌∙◌}
-use Rattle.std.specs.Prelude.{IfOk, IsTrue, ◌↔◌, ◌≡◌}
-use Rattle.sabr_frontier.specs.listing.Listing.{state_at}
-use Rattle.sabr_search.specs.questions.Calls.{Calls}
-use Rattle.sabr_frontier.specs.tree.Searching.{Asked, GoOn}
-use Rattle.sabr_frontier.specs.session.Session.{IsSession, Seen}
-use Rattle.sabr_frontier.specs.tree.Shape.{shape_of}
+use Rattle.sabr_frontier.proofs.Names.{◌+◌, ◌≤◌, ap, length, sym, subst, arith, ◌∙◌, IfOk, IsTrue, ◌↔◌, state_at, Calls, Asked, GoOn, IsSession, Seen, shape_of}
+use Rattle.std.specs.Prelude.{◌≡◌}
 use Rattle.sabr_frontier.proofs.GivingLemmas.Sums.{calls_go_on}
 use Rattle.sabr_frontier.proofs.SessionLemmas.Pages.{sound_tree}
 use Rattle.sabr_frontier.proofs.SessionLemmas.Verdicts.{nodes_are_parts}

@@ -1,11 +1,5 @@
-use Rattle.std.proofs.Common.{◌-◌, drop, ap, sym, subst, ◌∙◌, arith}
-use Rattle.sabr_search.specs.questions.Calls.{Calls}
-use Rattle.sabr_frontier.specs.tree.Left.{HasLooks}
+use Rattle.sabr_frontier.proofs.Names.{◌-◌, drop, ap, sym, subst, ◌∙◌, arith, Calls, HasLooks, Seen, Asked, steps_for, shape_of, shown, drop_at}
 use Rattle.sabr_frontier.specs.session.LastPage.{IsLastPage, LastSeen}
-use Rattle.sabr_frontier.specs.session.Session.{Seen}
-use Rattle.sabr_frontier.specs.tree.Searching.{Asked, steps_for}
-use Rattle.sabr_frontier.specs.tree.Shape.{shape_of, shown}
-use Rattle.std.proofs.lemmas.List.{drop_at}
 use Rattle.sabr_frontier.proofs.GivingLemmas.Sums.{calls_go_on, looks_go_on}
 use Rattle.sabr_frontier.proofs.session.Session.last_page.Goals as goal
 

@@ -1,8 +1,4 @@
-use Rattle.std.proofs.Common.{ap, ◌∙◌}
-use Rattle.std.specs.Prelude.{is_some}
-use Rattle.sabr_frontier.specs.listing.Listing.{next_route}
-use Rattle.sabr_frontier.specs.tree.Shape.{shape_of}
-use Rattle.sabr_frontier.specs.session.Session.{Seen}
+use Rattle.sabr_frontier.proofs.Names.{ap, ◌∙◌, is_some, next_route, shape_of, Seen}
 use Rattle.sabr_frontier.proofs.SessionLemmas.Pages.{more_is}
 use Rattle.sabr_frontier.proofs.session.Session.more.Goals as goal
 

@@ -1,15 +1,6 @@
-use Rattle.std.proofs.Common.{◌≡◌, ◌+◌, ◌-◌, ◌<◌, ◌≤◌, ◌⊎◌, inl, inr, ℕ, List, [], ◌∷◌, ◌++◌, map, length, reverse, arith, ap, sym, subst, ◌∙◌, None, refl}
-use Rattle.sabr_model.specs.routes.Record.{record_of}
-use Rattle.sabr_search.specs.questions.Calls.{Calls}
+use Rattle.sabr_frontier.proofs.Names.{◌≡◌, ◌+◌, ◌-◌, ◌<◌, ◌≤◌, ◌⊎◌, inl, inr, ℕ, List, [], ◌∷◌, ◌++◌, map, length, reverse, arith, ap, sym, subst, ◌∙◌, None, refl, record_of, Calls, Asked, GoOn, Searching, looks_since, State, next_route, Shape, shape_of, shown, Seen, AreStarts, IsSession, IsSound, former_of, former_then, next_page, page_searches, seen, tree_before, IsIndexBack, CarriesNone, CarriesSome}
 use Rattle.sabr_frontier.specs.declared.tree.Tree.{Tree}
-use Rattle.sabr_frontier.specs.tree.Searching.{Asked, GoOn, Searching, looks_since}
-use Rattle.sabr_frontier.specs.listing.State.{State}
-use Rattle.sabr_frontier.specs.listing.Listing.{next_route}
-use Rattle.sabr_frontier.specs.tree.Shape.{Shape, shape_of, shown}
-use Rattle.sabr_frontier.specs.session.Session.{Seen, AreStarts, IsSession, IsSound, former_of, former_then, next_page, page_searches, seen, tree_before}
 use Rattle.sabr_frontier.proofs.SessionLemmas.Pages.{sound_tree, counts_idle, sound_undos, last_first, idle, busy, carried_or_not}
-use Rattle.sabr_frontier.specs.tree.Undo.{IsIndexBack}
-use Rattle.sabr_frontier.specs.tree.Winners.{CarriesNone, CarriesSome}
 use Rattle.sabr_frontier.proofs.TreeLemmas.MergedIndex.{back_before, part_before}
 use Rattle.sabr_frontier.specs.listing.Fresh.{GivesNewRoutes}
 use Rattle.sabr_frontier.proofs.ListingLemmas.NewRoutes.{new_routes}

@@ -1,6 +1,4 @@
-use Rattle.std.proofs.Common.{length, map, ap, ◌∙◌}
-use Rattle.sabr_frontier.specs.tree.Shape.{shape_of}
-use Rattle.sabr_frontier.specs.session.Session.{Seen, seen_part}
+use Rattle.sabr_frontier.proofs.Names.{length, map, ap, ◌∙◌, shape_of, Seen, seen_part}
 use Rattle.sabr_frontier.specs.session.Views.{seen_at}
 use Rattle.sabr_frontier.proofs.SessionLemmas.Pages.{sound_tree}
 use Rattle.sabr_frontier.proofs.TreeLemmas.SoundSteps.{seen_all}

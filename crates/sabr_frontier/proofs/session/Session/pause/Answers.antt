@@ -1,8 +1,4 @@
-use Rattle.std.proofs.Common.{◌≡◌, sym, subst}
-use Rattle.sabr_frontier.specs.session.Paused.{IsPausedOver, seen_over}
-use Rattle.sabr_frontier.specs.session.Session.{IsSession, Seen, seen}
-use Rattle.sabr_model.specs.routes.Arrival.{RouteRequest}
-use Rattle.sabr_frontier.specs.tree.Searching.{searching_first}
+use Rattle.sabr_frontier.proofs.Names.{◌≡◌, sym, subst, IsPausedOver, seen_over, IsSession, Seen, seen, RouteRequest, searching_first}
 use Rattle.sabr_frontier.proofs.session.Session.pause.Goals as goal
 
 pub returns-clause-seen : goal.returns-clause-seen

@@ -1,13 +1,6 @@
-use Rattle.std.proofs.Common.{◌≡◌, [], length, reverse, arith, ap, refl, sym, subst, ◌∙◌}
-use Rattle.sabr_model.specs.plan.Plan.{IsPlan, TabledPlan}
+use Rattle.sabr_frontier.proofs.Names.{◌≡◌, [], length, reverse, arith, ap, refl, sym, subst, ◌∙◌, IsPlan, TabledPlan, empty_is_prefix, Calls, Asked, GoOn, IsAtRest, Searching, searching_first, Shape, shape_of, shown, root, AreStarts, IsSession, IsSound, former_of, started, best_of}
 use Rattle.sabr_model.specs.routes.Asking.{IsRequest}
-use Rattle.sabr_model.proofs.RouteLemmas.Prefixes.{empty_is_prefix}
-use Rattle.sabr_search.specs.questions.Calls.{Calls}
-use Rattle.sabr_frontier.specs.tree.Searching.{Asked, GoOn, IsAtRest, Searching, searching_first}
 use Rattle.sabr_frontier.proofs.GivingLemmas.Sums.{calls_go_on}
-use Rattle.sabr_frontier.specs.tree.Shape.{Shape, shape_of, shown, root}
-use Rattle.sabr_frontier.specs.session.Session.{AreStarts, IsSession, IsSound, former_of, started}
-use Rattle.sabr_frontier.specs.tree.Best.{best_of}
 use Rattle.sabr_frontier.proofs.TreeLemmas.SoundSteps.{root_is_tree, shown_root}
 use Rattle.sabr_frontier.proofs.session.Session.start_with_index.Goals as goal
 

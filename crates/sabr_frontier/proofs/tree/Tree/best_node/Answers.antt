@@ -1,9 +1,4 @@
-use Rattle.std.proofs.Common.{◌≡◌, ◌<◌, List, length, Some, ap, arith, sym, subst, ◌∙◌}
-use Rattle.std.proofs.lemmas.Option.{get_or_from_slice_get, slice_get_within}
-use Rattle.std.specs.Prelude.{IfNone, slice_get}
-use Rattle.sabr_frontier.specs.declared.tree.NodeId.{NodeId}
-use Rattle.sabr_frontier.specs.tree.Shape.{route_at}
-use Rattle.sabr_frontier.specs.tree.Winners.{CarriesNone, IsFirst, winner_at}
+use Rattle.sabr_frontier.proofs.Names.{◌≡◌, ◌<◌, List, length, Some, ap, arith, sym, subst, ◌∙◌, get_or_from_slice_get, slice_get_within, IfNone, slice_get, NodeId, route_at, CarriesNone, IsFirst, winner_at}
 use Rattle.sabr_frontier.proofs.TreeLemmas.SlotWinners.{first_carries, none_carries}
 use Rattle.sabr_frontier.proofs.tree.Tree.best_node.Goals as goal
 

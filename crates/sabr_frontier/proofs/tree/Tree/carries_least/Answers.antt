@@ -1,13 +1,4 @@
-use Rattle.std.proofs.Common.{◌≡◌, inl, inr, List, refl, sym, ap, subst, ◌∙◌, true≢false, arith, length, Some, None}
-use Rattle.std.proofs.lemmas.Option.{slice_get_within}
-use Rattle.std.specs.Prelude.{IsTrue, slice_get}
-use Rattle.std.specs.List.Sorted.{IsStrictlyIncreasing}
-use Rattle.std.proofs.lemmas.Bool.{cases_lt}
-use Rattle.sabr_model.specs.routes.Route.{is_prefix}
-use Rattle.sabr_frontier.specs.declared.tree.Node.{Node}
-use Rattle.sabr_frontier.specs.tree.Searching.{Asked, best_for}
-use Rattle.sabr_frontier.specs.tree.Best.{best_of}
-use Rattle.sabr_frontier.specs.tree.Shape.{shape_of, prefix_of}
+use Rattle.sabr_frontier.proofs.Names.{◌≡◌, inl, inr, List, refl, sym, ap, subst, ◌∙◌, true≢false, arith, length, Some, None, slice_get_within, IsTrue, slice_get, IsStrictlyIncreasing, cases_lt, is_prefix, Node, Asked, best_for, best_of, shape_of, prefix_of}
 use Rattle.sabr_frontier.proofs.TreeLemmas.ModifiedPlaces.{get_there}
 use Rattle.sabr_frontier.proofs.TreeLemmas.ListFronts.{increasing}
 use Rattle.sabr_frontier.proofs.SessionLemmas.Verdicts.{excluded_rise, front_is, least_best, best_least}

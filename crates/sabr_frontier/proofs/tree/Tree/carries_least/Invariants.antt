@@ -1,8 +1,4 @@
-use Rattle.std.proofs.Common.{◌≡◌, ◌+◌, ℕ, ◌<◌, Some}
-use Rattle.std.specs.Prelude.{slice_get}
-use Rattle.sabr_frontier.specs.declared.tree.Node.{Node}
-use Rattle.sabr_frontier.specs.tree.Best.{best_of}
-use Rattle.sabr_frontier.specs.tree.Shape.{prefix_of}
+use Rattle.sabr_frontier.proofs.Names.{◌≡◌, ◌+◌, ℕ, ◌<◌, Some, slice_get, Node, best_of, prefix_of}
 use Rattle.sabr_frontier.proofs.tree.Tree.carries_least.Given as goal
 
 abbrev pub invariant-loop-node : goal.invariant-loop-node

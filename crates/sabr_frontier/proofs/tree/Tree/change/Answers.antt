@@ -1,9 +1,4 @@
-use Rattle.std.proofs.Common.{◌≡◌, ◌+◌, ◌++◌, ◌∷◌, [], length, arith, ap, sym, subst, ◌∙◌, Some}
-use Rattle.std.proofs.lemmas.List.{take_at}
-use Rattle.sabr_frontier.specs.tree.Shape.{order_of}
-use Rattle.sabr_frontier.specs.tree.PageTrees.{carrying}
-use Rattle.sabr_frontier.specs.tree.Undo.{modify}
-use Rattle.sabr_frontier.specs.tree.Winners.{AreOthersWinners, AreWinners}
+use Rattle.sabr_frontier.proofs.Names.{◌≡◌, ◌+◌, ◌++◌, ◌∷◌, [], length, arith, ap, sym, subst, ◌∙◌, Some, take_at, order_of, carrying, modify, AreOthersWinners, AreWinners}
 use Rattle.sabr_frontier.proofs.tree.Tree.change.Goals as goal
 
 pub replay_up-requires-clause-others : goal.replay_up-requires-clause-others

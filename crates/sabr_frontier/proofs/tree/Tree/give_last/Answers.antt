@@ -1,19 +1,5 @@
-use Rattle.std.proofs.Common.{◌≡◌, ◌≤◌, ℕ, List, [], ◌∷◌, ◌++◌, ◌||◌, Some, None, length, true≢false, append-nil, ap, sym, subst, ◌∙◌}
-use Rattle.std.proofs.lemmas.Option.{slice_get_within}
-use Rattle.std.specs.Prelude.{is_some}
-use Rattle.sabr_model.specs.plan.Plan.{IsPlan}
-use Rattle.sabr_model.specs.routes.Record.{RouteRecord}
-use Rattle.sabr_model.specs.routes.Route.{is_route}
-use Rattle.sabr_frontier.specs.declared.tree.Node.{Node}
-use Rattle.sabr_index.specs.Looks.{looks_taken}
-use Rattle.sabr_frontier.specs.tree.Left.{CarriesNoOther, others_carry, part_goes_on}
+use Rattle.sabr_frontier.proofs.Names.{◌≡◌, ◌≤◌, ℕ, List, [], ◌∷◌, ◌++◌, ◌||◌, Some, None, length, true≢false, append-nil, ap, sym, subst, ◌∙◌, slice_get_within, is_some, IsPlan, RouteRecord, is_route, Node, looks_taken, CarriesNoOther, others_carry, part_goes_on, next_route, State, Asked, best_for, records_for, steps_for, Shape, numbers_of, route_at, shape_of, shown, CanExclude, IsTree, CarriesNone}
 use Rattle.sabr_frontier.proofs.SessionLemmas.LeftSteps.{no_others, one_route, left_after}
-use Rattle.sabr_frontier.specs.listing.Listing.{next_route}
-use Rattle.sabr_frontier.specs.listing.State.{State}
-use Rattle.sabr_frontier.specs.tree.Searching.{Asked, best_for, records_for, steps_for}
-use Rattle.sabr_frontier.specs.tree.Shape.{Shape, numbers_of, route_at, shape_of, shown}
-use Rattle.sabr_frontier.specs.tree.Sound.{CanExclude, IsTree}
-use Rattle.sabr_frontier.specs.tree.Winners.{CarriesNone}
 use Rattle.sabr_frontier.proofs.SessionLemmas.Pages.{counts_known, steps_stop, nothing_carried, nothing_given}
 use Rattle.sabr_frontier.proofs.TreeLemmas.CarryingNodes.{known, inside, next_is}
 use Rattle.sabr_frontier.proofs.TreeLemmas.Floors.{floor_known}

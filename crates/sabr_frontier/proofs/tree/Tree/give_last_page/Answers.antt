@@ -1,20 +1,7 @@
-use Rattle.std.proofs.Common.{◌≡◌, refl, ◌+◌, ◌-◌, ◌≤◌, List, ◌++◌, ℕ, inl, inr, arith, ap, sym, subst, ◌∙◌, zero, suc, [], Some, None, append_assoc, append-nil}
-use Rattle.std.specs.Prelude.{is_some}
-use Rattle.sabr_model.specs.routes.Record.{record_of, RouteRecord}
-use Rattle.sabr_frontier.specs.listing.Listing.{next_route, given_first, one_step, searches_in, steps}
-use Rattle.sabr_frontier.specs.listing.State.{State}
-use Rattle.sabr_search.specs.questions.Detours.{detour_looks}
-use Rattle.sabr_frontier.specs.tree.Left.{HasLooks}
-use Rattle.sabr_index.specs.Looks.{looks_taken}
-use Rattle.sabr_frontier.specs.tree.Searching.{Asked, records_for, steps_for}
-use Rattle.sabr_frontier.specs.tree.Shape.{Shape, shape_of, shown}
-use Rattle.sabr_frontier.specs.tree.Sound.{IsTree}
+use Rattle.sabr_frontier.proofs.Names.{◌≡◌, refl, ◌+◌, ◌-◌, ◌≤◌, List, ◌++◌, ℕ, inl, inr, arith, ap, sym, subst, ◌∙◌, zero, suc, [], Some, None, append_assoc, append-nil, is_some, record_of, RouteRecord, next_route, given_first, one_step, searches_in, steps, State, detour_looks, HasLooks, looks_taken, Asked, records_for, steps_for, Shape, shape_of, shown, IsTree, map-append, ContactPlan, IsPlan, RouteRequest}
 use Rattle.sabr_frontier.proofs.GivingLemmas.{then_ok}
 use Rattle.sabr_frontier.proofs.GivingLemmas.CutPages.{IsSameStep, cut_looks, cut_next, cut_tree, two_looks}
 use Rattle.sabr_frontier.proofs.SessionLemmas.Pages.{idle, more_is, counts_go, counts_none, counts_stop, steps_go, steps_none, steps_stop}
-use Rattle.std.proofs.lemmas.List.{map-append}
-use Rattle.sabr_model.specs.plan.Plan.{ContactPlan, IsPlan}
-use Rattle.sabr_model.specs.routes.Arrival.{RouteRequest}
 use Rattle.sabr_frontier.proofs.tree.Tree.give_last_page.Goals as goal
 
 -- ---- the steps of a page, the last of them apart

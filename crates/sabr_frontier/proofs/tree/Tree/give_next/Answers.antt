@@ -1,21 +1,4 @@
-use Rattle.std.proofs.Common.{Bool, true, false, inl, ◌≡◌, ℕ, ◌+◌, ◌-◌, ◌<◌, ◌++◌, length-append, Option, ◌∷◌, [], List, length, take, arith, ap, sym, subst, refl, ◌∙◌, Some, None}
-use Rattle.std.proofs.lemmas.Option.{get_or_from_slice_get, slice_get_within}
-use Rattle.std.specs.Prelude.{IsFalse, IsTrue, slice_get}
-use Rattle.std.specs.Option.{option_and_then}
-use Rattle.sabr_model.specs.routes.Record.{RouteRecord}
-use Rattle.sabr_search.specs.declared.bound.Bound.{Bound}
-use Rattle.sabr_model.specs.routes.Route.{is_route}
-use Rattle.sabr_frontier.specs.declared.giving.give_next.GivenRoute.{GivenRoute}
-use Rattle.sabr_frontier.specs.declared.tree.Node.{Node}
-use Rattle.sabr_frontier.specs.declared.tree.NodeId.{NodeId}
-use Rattle.sabr_frontier.specs.tree.Shape.{Shape, order_of, shape_of, route_at, route_of, numbers_of}
-use Rattle.sabr_frontier.specs.tree.Undo.{IsLonger, given_back, including, modify}
-use Rattle.sabr_frontier.specs.tree.Winners.{AreOthersWinners, AreWinners, IsFirst}
-use Rattle.sabr_frontier.specs.tree.Searching.{Asked, best_for}
-use Rattle.sabr_frontier.specs.tree.Sound.{CanExclude, IsTree}
-use Rattle.sabr_search.specs.questions.Bounded.{IsFloor}
-use Rattle.sabr_frontier.specs.tree.Giving.{changed_by, divided_into, fresh_after, wide_of, widened}
-use Rattle.sabr_frontier.specs.tree.PageTrees.{AreFound, IsBestWhere, IsNextGiven, carrying, excluding, given_by}
+use Rattle.sabr_frontier.proofs.Names.{Bool, true, false, inl, ◌≡◌, ℕ, ◌+◌, ◌-◌, ◌<◌, ◌++◌, length-append, Option, ◌∷◌, [], List, length, take, arith, ap, sym, subst, refl, ◌∙◌, Some, None, get_or_from_slice_get, slice_get_within, IsFalse, IsTrue, slice_get, option_and_then, RouteRecord, Bound, is_route, GivenRoute, Node, NodeId, Shape, order_of, shape_of, route_at, route_of, numbers_of, IsLonger, given_back, including, modify, AreOthersWinners, AreWinners, IsFirst, Asked, best_for, CanExclude, IsTree, IsFloor, changed_by, divided_into, fresh_after, wide_of, widened, AreFound, IsBestWhere, IsNextGiven, carrying, excluding, given_by}
 use Rattle.sabr_frontier.proofs.TreeLemmas.ModifiedPlaces.{length-modify, modify_back, modify_front, modify_same, modify_twice, get_front, get_other, get_same, within_get}
 use Rattle.sabr_frontier.proofs.TreeLemmas.ListFronts.{carried_then}
 use Rattle.sabr_frontier.proofs.TreeLemmas.CarryingNodes.{IsKnown, known, inside, route_there}

@@ -1,13 +1,5 @@
-use Rattle.std.proofs.Common.{◌≡◌, ℕ, ◌+◌, ◌-◌, ◌≤◌, ◌⊎◌, List, ◌++◌, append-nil, suc, length, length-drop, drop, arith, refl, sym, ap, subst, ◌∙◌, inl, inr, zero-add, None}
-use Rattle.std.proofs.lemmas.List.{drop_at, length_push, take_all}
+use Rattle.sabr_frontier.proofs.Names.{◌≡◌, ℕ, ◌+◌, ◌-◌, ◌≤◌, ◌⊎◌, List, ◌++◌, append-nil, suc, length, length-drop, drop, arith, refl, sym, ap, subst, ◌∙◌, inl, inr, zero-add, None, drop_at, length_push, take_all, RouteRecord, searches_in, State, Asked, records_for, shape_of, shown, IsTree, CarriesNone}
 use Rattle.sabr_model.proofs.ListLemmas.Answered.{on_err}
-use Rattle.sabr_model.specs.routes.Record.{RouteRecord}
-use Rattle.sabr_frontier.specs.listing.Listing.{searches_in}
-use Rattle.sabr_frontier.specs.listing.State.{State}
-use Rattle.sabr_frontier.specs.tree.Searching.{Asked, records_for}
-use Rattle.sabr_frontier.specs.tree.Shape.{shape_of, shown}
-use Rattle.sabr_frontier.specs.tree.Sound.{IsTree}
-use Rattle.sabr_frontier.specs.tree.Winners.{CarriesNone}
 use Rattle.sabr_frontier.proofs.SessionLemmas.Pages.{is_given, IsOnTheWay, at_first, one_on, idle, sound_tree, counts_on, counts_idle, counts_first, given_same}
 use Rattle.sabr_frontier.proofs.tree.Tree.give_page.Goals as goal
 use Rattle.sabr_frontier.proofs.tree.Tree.give_page.Goals.{then-loop-left-test+else-not-is_empty, else-loop-left-test}

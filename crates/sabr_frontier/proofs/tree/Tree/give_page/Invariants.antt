@@ -1,7 +1,4 @@
-use Rattle.std.proofs.Common.{◌≡◌, ◌+◌, ◌*◌, ◌≤◌, length}
-use Rattle.sabr_frontier.specs.listing.Listing.{searches_in}
-use Rattle.sabr_frontier.specs.tree.Shape.{shape_of, shown}
-use Rattle.sabr_frontier.specs.tree.Undo.{IsRoomy}
+use Rattle.sabr_frontier.proofs.Names.{◌≡◌, ◌+◌, ◌*◌, ◌≤◌, length, searches_in, shape_of, shown, IsRoomy}
 use Rattle.sabr_frontier.proofs.SessionLemmas.Pages.{IsOnTheWay}
 use Rattle.sabr_frontier.proofs.tree.Tree.give_page.Given as goal
 

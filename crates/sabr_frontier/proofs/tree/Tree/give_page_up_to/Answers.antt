@@ -1,14 +1,4 @@
-use Rattle.std.proofs.Common.{◌≡◌, ◌-◌, ◌⊎◌, ◌++◌, ℕ, List, [], ◌∙◌, suc, length, append-nil, ap, arith, refl, sym, subst, inl, inr, None, Option, Some, ◌+◌}
-use Rattle.sabr_model.specs.plan.Plan.{IsPlan}
-use Rattle.sabr_frontier.specs.tree.SmallestKeys.{AreNoted, CarryKeys, carried_keys}
-use Rattle.sabr_frontier.specs.listing.Listing.{one_step, searches_in}
-use Rattle.sabr_frontier.specs.listing.State.{State}
-use Rattle.sabr_search.specs.declared.bound.Bound.{Bound}
-use Rattle.sabr_frontier.specs.declared.giving.give_next.GivenRoute.{GivenRoute}
-use Rattle.sabr_frontier.specs.tree.PageTrees.{IsNextGiven, ShowsCut}
-use Rattle.sabr_frontier.specs.tree.Searching.{Asked, best_for, records_for, steps_for}
-use Rattle.sabr_frontier.specs.tree.Shape.{Shape, shape_of, shown}
-use Rattle.sabr_frontier.specs.tree.Sound.{IsTree}
+use Rattle.sabr_frontier.proofs.Names.{◌≡◌, ◌-◌, ◌⊎◌, ◌++◌, ℕ, List, [], ◌∙◌, suc, length, append-nil, ap, arith, refl, sym, subst, inl, inr, None, Option, Some, ◌+◌, IsPlan, AreNoted, CarryKeys, carried_keys, one_step, searches_in, State, Bound, GivenRoute, IsNextGiven, ShowsCut, Asked, best_for, records_for, steps_for, Shape, shape_of, shown, IsTree}
 use Rattle.sabr_frontier.proofs.GivingLemmas.CutPages.{IsCutWay, step_within, turn_is, way_first, way_on, cut_ended, cut_tree, cut_weaker}
 use Rattle.sabr_frontier.proofs.GivingLemmas.KeptKeys.{carry_keys}
 use Rattle.sabr_frontier.proofs.SessionLemmas.Pages.{counts_none, counts_stop, given_same, sound_tree, steps_none, steps_stop}

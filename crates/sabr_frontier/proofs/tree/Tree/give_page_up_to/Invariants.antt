@@ -1,6 +1,4 @@
-use Rattle.std.proofs.Common.{◌≡◌}
-use Rattle.sabr_frontier.specs.tree.Shape.{shape_of, shown}
-use Rattle.sabr_frontier.specs.tree.Undo.{IsRoomy}
+use Rattle.sabr_frontier.proofs.Names.{◌≡◌, shape_of, shown, IsRoomy}
 use Rattle.sabr_frontier.proofs.GivingLemmas.CutPages.{IsCutWay}
 use Rattle.sabr_frontier.proofs.tree.Tree.give_page_up_to.Given as goal
 

@@ -1,7 +1,4 @@
-use Rattle.std.proofs.Common.{◌≡◌, true, false, true≢false, ◌||◌, None, arith, ap, sym, ◌∙◌}
-use Rattle.sabr_frontier.specs.declared.tree.Node.{Node}
-use Rattle.sabr_frontier.specs.tree.Searching.{best_for}
-use Rattle.sabr_frontier.specs.tree.Left.{others_carry, part_goes_on}
+use Rattle.sabr_frontier.proofs.Names.{◌≡◌, true, false, true≢false, ◌||◌, None, arith, ap, sym, ◌∙◌, Node, best_for, others_carry, part_goes_on}
 use Rattle.sabr_frontier.proofs.GivingLemmas.{then_ok}
 use Rattle.sabr_frontier.proofs.TreeLemmas.ModifiedPlaces.{get_there}
 use Rattle.sabr_frontier.proofs.tree.Tree.goes_on_after.Goals as goal

@@ -1,9 +1,4 @@
-use Rattle.std.proofs.Common.{sym, ap, ◌∙◌}
-use Rattle.std.specs.List.{list_any}
-use Rattle.std.specs.Ordering.{is_lt}
-use Rattle.sabr_model.specs.routes.Record.{by_record}
-use Rattle.sabr_frontier.specs.listing.Laws.{LeavesComeFirst}
-use Rattle.sabr_frontier.specs.tree.Shape.{shape_of, shown}
+use Rattle.sabr_frontier.proofs.Names.{sym, ap, ◌∙◌, list_any, is_lt, by_record, LeavesComeFirst, shape_of, shown}
 use Rattle.sabr_frontier.proofs.SessionLemmas.Verdicts.{first_none, above_end, above_some, passed, reached, refused, decided}
 use Rattle.sabr_frontier.proofs.tree.Tree.is_placed.Goals as goal
 use Rattle.sabr_frontier.proofs.tree.Tree.is_placed.Goals.{in-Some+else-is_passed+in-Some-next_carried+else-not-is_below, in-Some+else-is_passed+in_default-next_carried, in_default}

@@ -1,9 +1,4 @@
-use Rattle.std.proofs.Common.{◌-◌, ◌++◌, ◌∙◌, length, length-drop, drop, arith, ap, refl, subst}
-use Rattle.std.proofs.lemmas.List.{take_all}
-use Rattle.std.proofs.lemmas.Option.{get_or_from_slice_get}
-use Rattle.sabr_frontier.specs.declared.tree.Node.{Node}
-use Rattle.sabr_frontier.specs.tree.SmallestKeys.{AreNoted, carried_keys, keys_of}
-use Rattle.sabr_frontier.specs.listing.State.{Member}
+use Rattle.sabr_frontier.proofs.Names.{◌-◌, ◌++◌, ◌∙◌, length, length-drop, drop, arith, ap, refl, subst, take_all, get_or_from_slice_get, Node, AreNoted, carried_keys, keys_of, Member}
 use Rattle.sabr_frontier.proofs.GivingLemmas.{then_ok}
 use Rattle.sabr_frontier.proofs.GivingLemmas.KeptKeys.{carries_at, noted_twice}
 use Rattle.sabr_frontier.proofs.TreeLemmas.ModifiedPlaces.{member_dropped, member_taken}

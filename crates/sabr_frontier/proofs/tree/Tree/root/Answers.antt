@@ -1,8 +1,5 @@
-use Rattle.std.proofs.Common.{◌++◌, ◌∷◌, true, [], arith, ap, sym, subst, ◌∙◌, None, List}
-use Rattle.sabr_frontier.specs.declared.tree.Node.{Node}
-use Rattle.sabr_frontier.specs.tree.Winners.{AreWinners}
+use Rattle.sabr_frontier.proofs.Names.{◌++◌, ◌∷◌, true, [], arith, ap, sym, subst, ◌∙◌, None, List, Node, AreWinners, NodeId}
 use Rattle.sabr_frontier.proofs.TreeLemmas.IndexedNodes.{order_one}
-use Rattle.sabr_frontier.specs.declared.tree.NodeId.{NodeId}
 use Rattle.sabr_frontier.proofs.tree.Tree.root.Goals as goal
 
 pub returns-clause-shape : goal.returns-clause-shape

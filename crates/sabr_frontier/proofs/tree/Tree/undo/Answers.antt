@@ -1,9 +1,5 @@
-use Rattle.std.proofs.Common.{arith, length, ◌≤◌, ◌≡◌, ap, ◌∙◌, sym, subst, Some, take, length-take-le}
+use Rattle.sabr_frontier.proofs.Names.{arith, length, ◌≤◌, ◌≡◌, ap, ◌∙◌, sym, subst, Some, take, length-take-le, Node, RouteRecord, order_of, shape_of, IsIndexed, undone, undone_by, modify, given_back, IsLonger}
 use Rattle.sabr_frontier.specs.declared.tree.Entry.{Entry}
-use Rattle.sabr_frontier.specs.declared.tree.Node.{Node}
-use Rattle.sabr_model.specs.routes.Record.{RouteRecord}
-use Rattle.sabr_frontier.specs.tree.Shape.{order_of, shape_of}
-use Rattle.sabr_frontier.specs.tree.Undo.{IsIndexed, undone, undone_by, modify, given_back, IsLonger}
 use Rattle.sabr_frontier.proofs.TreeLemmas.ModifiedPlaces.{last_item_push, front_push, length-modify}
 use Rattle.sabr_frontier.proofs.tree.Tree.undo.Goals as goal
 

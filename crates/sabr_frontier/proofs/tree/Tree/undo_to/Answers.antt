@@ -1,11 +1,6 @@
-use Rattle.std.proofs.Common.{rules, ◌≡◌, ◌-◌, ◌<◌, ℕ, arith, ap, sym, subst, ◌∙◌, length}
-use Rattle.std.proofs.lemmas.Fn.{filter_same}
+use Rattle.sabr_frontier.proofs.Names.{rules, ◌≡◌, ◌-◌, ◌<◌, ℕ, arith, ap, sym, subst, ◌∙◌, length, filter_same, NodeId, Shape, shape_of, CanUndoTimes, undone, undone_times, AreWinners}
 use Rattle.std.specs.Prelude.{nat_lt}
 use Rattle.std.specs.List.{filter}
-use Rattle.sabr_frontier.specs.declared.tree.NodeId.{NodeId}
-use Rattle.sabr_frontier.specs.tree.Shape.{Shape, shape_of}
-use Rattle.sabr_frontier.specs.tree.Undo.{CanUndoTimes, undone, undone_times}
-use Rattle.sabr_frontier.specs.tree.Winners.{AreWinners}
 use Rattle.sabr_frontier.proofs.SessionLemmas.Pages.{entries, entries_undone, can_undo_first, undone_first}
 use Rattle.sabr_frontier.proofs.tree.Tree.undo_to.Goals as goal
 

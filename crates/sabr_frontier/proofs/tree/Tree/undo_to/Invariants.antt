@@ -1,6 +1,4 @@
-use Rattle.std.proofs.Common.{◌≡◌, ◌-◌, length}
-use Rattle.sabr_frontier.specs.tree.Shape.{shape_of}
-use Rattle.sabr_frontier.specs.tree.Undo.{CanUndoTimes, undone_times, IsSpacious}
+use Rattle.sabr_frontier.proofs.Names.{◌≡◌, ◌-◌, length, shape_of, CanUndoTimes, undone_times, IsSpacious}
 use Rattle.sabr_frontier.proofs.tree.Tree.undo_to.Given as goal
 
 abbrev pub invariant-loop-self : goal.invariant-loop-self

@@ -1,7 +1,4 @@
-use Rattle.std.proofs.Common.{arith, set, ap, sym, ◌∙◌}
-use Rattle.std.specs.Option.{option_and_then}
-use Rattle.sabr_frontier.specs.tree.Shape.{route_of}
-use Rattle.sabr_frontier.specs.tree.PageTrees.{carrying}
+use Rattle.sabr_frontier.proofs.Names.{arith, set, ap, sym, ◌∙◌, option_and_then, route_of, carrying}
 use Rattle.sabr_frontier.proofs.TreeLemmas.ModifiedPlaces.{set-modify, get_there}
 use Rattle.sabr_frontier.proofs.tree.change.carry.Goals as goal
 

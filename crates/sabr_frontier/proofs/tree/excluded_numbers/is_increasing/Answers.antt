@@ -1,8 +1,4 @@
-use Rattle.std.proofs.Common.{◌≡◌, ℕ, zero, suc, ◌+◌, ◌<◌, ◌&&◌, Bool, true, false, List, [], ◌∷◌, get_or, length, ltb, refl, sym, ap, subst, ◌∙◌, arith, rules, of_calls}
-use Rattle.std.proofs.lemmas.Fn.{always_returns_same}
-use Rattle.std.specs.List.{IsAllAdjacentAnswer}
-use Rattle.sabr_model.specs.plan.Plan.{rises_above}
-use Rattle.sabr_frontier.specs.loading.Loading.{rise_strictly}
+use Rattle.sabr_frontier.proofs.Names.{◌≡◌, ℕ, zero, suc, ◌+◌, ◌<◌, ◌&&◌, Bool, true, false, List, [], ◌∷◌, get_or, length, ltb, refl, sym, ap, subst, ◌∙◌, arith, rules, of_calls, always_returns_same, IsAllAdjacentAnswer, rises_above, rise_strictly}
 use Rattle.sabr_frontier.proofs.tree.excluded_numbers.is_increasing.Goals as goal
 
 all_rise : (x : ℕ) (xs : List ℕ) → ((k j d : ℕ) → j ≡ k + 1 → j < length (x ∷ xs) → true ≡ ltb (get_or (x ∷ xs) k d) (get_or (x ∷ xs) j d)) → true ≡ rises_above x xs

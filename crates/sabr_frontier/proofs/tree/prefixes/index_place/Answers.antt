@@ -1,6 +1,4 @@
-use Rattle.std.proofs.Common.{rules, of_calls}
-use Rattle.std.proofs.lemmas.List.Sorted.{IsPartitionPoint-from_clause}
-use Rattle.sabr_frontier.specs.tree.Shape.{part_at, IsBefore}
+use Rattle.sabr_frontier.proofs.Names.{rules, of_calls, IsPartitionPoint-from_clause, part_at, IsBefore}
 use Rattle.sabr_frontier.specs.tree.Giving.{stands_before}
 use Rattle.sabr_frontier.proofs.TreeLemmas.ListFronts.{passing_is, partitioned}
 use Rattle.sabr_frontier.proofs.ListingLemmas.ListMembers.{earlier_prefix}

@@ -1,6 +1,4 @@
-use Rattle.std.proofs.Common.{arith, ℕ, List, ◌≡◌, ap, ◌∙◌, set, Some, slice_index}
-use Rattle.sabr_frontier.specs.tree.Shape.{numbers_of}
-use Rattle.sabr_frontier.specs.tree.Undo.{given_back}
+use Rattle.sabr_frontier.proofs.Names.{arith, ℕ, List, ◌≡◌, ap, ◌∙◌, set, Some, slice_index, numbers_of, given_back}
 use Rattle.sabr_frontier.proofs.TreeLemmas.ModifiedPlaces.{set-modify}
 use Rattle.std.specs.Prelude.{not, nat_eq, filter}
 use Rattle.sabr_frontier.proofs.tree.undo.give_back.Goals as goal

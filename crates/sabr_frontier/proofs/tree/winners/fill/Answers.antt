@@ -1,6 +1,4 @@
-use Rattle.std.proofs.Common.{arith, sym, subst, ◌∙◌}
-use Rattle.std.proofs.lemmas.List.{take_at}
-use Rattle.sabr_frontier.specs.tree.Winners.{AreWinners}
+use Rattle.sabr_frontier.proofs.Names.{arith, sym, subst, ◌∙◌, take_at, AreWinners}
 use Rattle.sabr_frontier.proofs.TreeLemmas.SlotWinners.{sifted_first}
 use Rattle.sabr_frontier.proofs.tree.winners.fill.Goals as goal
 

@@ -1,5 +1,4 @@
-use Rattle.std.proofs.Common.{◌≡◌, ◌≤◌, length, vec_len, vec_capacity}
-use Rattle.sabr_frontier.specs.tree.Winners.{AreWinners}
+use Rattle.sabr_frontier.proofs.Names.{◌≡◌, ◌≤◌, length, vec_len, vec_capacity, AreWinners}
 use Rattle.sabr_frontier.proofs.tree.winners.fill.Given as goal
 
 abbrev pub invariant-loop-place : goal.invariant-loop-place

@@ -1,5 +1,4 @@
-use Rattle.std.proofs.Common.{sym, subst, arith}
-use Rattle.sabr_frontier.specs.tree.Winners.{AreWinners}
+use Rattle.sabr_frontier.proofs.Names.{sym, subst, arith, AreWinners}
 use Rattle.sabr_frontier.proofs.tree.winners.rebuild.Goals as goal
 
 pub fill-requires-clause-won : goal.fill-requires-clause-won

@@ -1,5 +1,4 @@
-use Rattle.std.proofs.Common.{◌≡◌, ℕ, ◌+◌, ◌-◌, ◌/◌, arith, subst, refl, set, ◌∙◌}
-use Rattle.sabr_frontier.specs.tree.Winners.{AreOthersWinners}
+use Rattle.sabr_frontier.proofs.Names.{◌≡◌, ℕ, ◌+◌, ◌-◌, ◌/◌, arith, subst, refl, set, ◌∙◌, AreOthersWinners}
 use Rattle.sabr_frontier.proofs.TreeLemmas.SlotWinners.{others_over, others_all, settled_none, settled_more}
 use Rattle.sabr_frontier.proofs.tree.winners.replay_up.Goals as goal
 

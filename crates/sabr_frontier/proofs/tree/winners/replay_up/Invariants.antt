@@ -1,5 +1,4 @@
-use Rattle.std.proofs.Common.{◌≡◌, ◌-◌, ◌≤◌, length}
-use Rattle.sabr_frontier.specs.tree.Winners.{AreOthersWinners}
+use Rattle.sabr_frontier.proofs.Names.{◌≡◌, ◌-◌, ◌≤◌, length, AreOthersWinners}
 use Rattle.sabr_frontier.proofs.tree.winners.replay_up.Given as goal
 
 abbrev pub invariant-loop-end : goal.invariant-loop-end

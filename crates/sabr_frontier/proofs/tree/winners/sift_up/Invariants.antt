@@ -1,5 +1,4 @@
-use Rattle.std.proofs.Common.{◌≡◌, length}
-use Rattle.sabr_frontier.specs.tree.Winners.{IsSiftedUp}
+use Rattle.sabr_frontier.proofs.Names.{◌≡◌, length, IsSiftedUp}
 use Rattle.sabr_frontier.proofs.tree.winners.sift_up.Given as goal
 
 abbrev pub invariant-loop-slot : goal.invariant-loop-slot

@@ -1,9 +1,4 @@
-use Rattle.std.proofs.Common.{◌≤◌, ap, sym, subst, ◌∙◌}
-use Rattle.std.specs.Prelude.{unwrap_or}
-use Rattle.sabr_model.specs.plan.Plan.{IsPlan, TabledPlan}
-use Rattle.sabr_search.specs.questions.Bounded.{IsSought, IsDecided}
-use Rattle.sabr_frontier.specs.tree.Searching.{Searching, best_for, call_looks}
-use Rattle.sabr_search.specs.questions.Calls.{Calls, with_call}
+use Rattle.sabr_frontier.proofs.Names.{◌≤◌, ap, sym, subst, ◌∙◌, unwrap_or, IsPlan, TabledPlan, IsSought, IsDecided, Searching, best_for, call_looks, Calls, with_call}
 use Rattle.sabr_frontier.proofs.GivingLemmas.Sums.{same_before, sum_on}
 use Rattle.sabr_frontier.proofs.TreeLemmas.Floors.{found_by_best}
 use Rattle.sabr_frontier.proofs.giving.searcher.Searcher.find_best.Goals as goal

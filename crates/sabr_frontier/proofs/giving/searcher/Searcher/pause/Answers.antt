@@ -1,6 +1,5 @@
-use Rattle.std.proofs.Common.{subst}
+use Rattle.sabr_frontier.proofs.Names.{subst, Searching}
 use Rattle.sabr_search.specs.answers.SearchCache.{IsSearchCache}
-use Rattle.sabr_frontier.specs.tree.Searching.{Searching}
 use Rattle.sabr_frontier.proofs.giving.searcher.Searcher.pause.Goals as goal
 
 pub returns-clause-cache : goal.returns-clause-cache

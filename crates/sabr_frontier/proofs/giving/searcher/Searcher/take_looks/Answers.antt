@@ -1,6 +1,4 @@
-use Rattle.std.proofs.Common.{◌≡◌, ap, subst, ◌∙◌}
-use Rattle.sabr_search.specs.questions.Calls.{Calls}
-use Rattle.sabr_frontier.specs.tree.Searching.{GoOn, Searching, looks_since}
+use Rattle.sabr_frontier.proofs.Names.{◌≡◌, ap, subst, ◌∙◌, Calls, GoOn, Searching, looks_since}
 use Rattle.sabr_frontier.proofs.GivingLemmas.Sums.{none_summed, sum_goes_on, sum_since, without_none}
 use Rattle.sabr_frontier.proofs.giving.searcher.Searcher.take_looks.Goals as goal
 

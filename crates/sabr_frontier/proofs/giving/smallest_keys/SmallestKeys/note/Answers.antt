@@ -1,9 +1,5 @@
-use Rattle.std.proofs.Common.{◌≤◌, ◌<◌, ◌∷◌, [], ℕ, length, arith, refl, subst, heap_items, List, None, Some, Option}
-use Rattle.std.specs.Prelude.{All, IfSome}
+use Rattle.sabr_frontier.proofs.Names.{◌≤◌, ◌<◌, ◌∷◌, [], ℕ, length, arith, refl, subst, heap_items, List, None, Some, Option, All, IfSome, nat_cmp, le_from_greatest, AreNoted, SeenKeys}
 use Rattle.std.specs.BinaryHeap.{IsUpperBound}
-use Rattle.std.specs.Ordering.{nat_cmp}
-use Rattle.std.proofs.lemmas.List.Sorted.{le_from_greatest}
-use Rattle.sabr_frontier.specs.tree.SmallestKeys.{AreNoted, SeenKeys}
 use Rattle.sabr_frontier.proofs.GivingLemmas.KeptKeys.{kept_least, kept_more}
 use Rattle.sabr_frontier.proofs.giving.smallest_keys.SmallestKeys.note.Goals as goal
 

@@ -1,6 +1,4 @@
-use Rattle.std.proofs.Common.{◌+◌, take, subst, arith}
-use Rattle.std.proofs.lemmas.List.{take_all}
-use Rattle.sabr_frontier.specs.tree.SmallestKeys.{AreNoted, carried_keys, keys_of}
+use Rattle.sabr_frontier.proofs.Names.{◌+◌, take, subst, arith, take_all, AreNoted, carried_keys, keys_of}
 use Rattle.sabr_frontier.proofs.GivingLemmas.KeptKeys.{carried_more, carries_at, noted_twice}
 use Rattle.sabr_frontier.proofs.giving.smallest_keys.SmallestKeys.note_all.Goals as goal
 

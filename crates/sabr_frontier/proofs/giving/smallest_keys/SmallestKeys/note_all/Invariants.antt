@@ -1,5 +1,4 @@
-use Rattle.std.proofs.Common.{take}
-use Rattle.sabr_frontier.specs.tree.SmallestKeys.{AreNoted, carried_keys}
+use Rattle.sabr_frontier.proofs.Names.{take, AreNoted, carried_keys}
 use Rattle.sabr_frontier.proofs.giving.smallest_keys.SmallestKeys.note_all.Given as goal
 
 abbrev pub invariant-loop-place : goal.invariant-loop-place

@@ -1,6 +1,4 @@
-use Rattle.std.proofs.Common.{refl, sym, subst, Option}
-use Rattle.sabr_model.specs.routes.Record.{RouteRecord}
-use Rattle.sabr_frontier.specs.tree.SmallestKeys.{AreNoted, keys_of}
+use Rattle.sabr_frontier.proofs.Names.{refl, sym, subst, Option, RouteRecord, AreNoted, keys_of}
 use Rattle.sabr_frontier.proofs.GivingLemmas.KeptKeys.{kept_all}
 use Rattle.sabr_frontier.proofs.giving.smallest_keys.SmallestKeys.note_carried.Goals as goal
 

@@ -1,12 +1,6 @@
-use Rattle.std.proofs.Common.{◌≡◌, ◌∷◌, ◌++◌, [], List, ℕ, map, length, refl, sym, ap, subst, ◌∙◌, inl, inr, true≢false, append-nil, cond, not}
-use Rattle.std.proofs.lemmas.Bool.{false_from_ne_true}
-use Rattle.std.specs.Prelude.{unwrap_or}
+use Rattle.sabr_frontier.proofs.Names.{◌≡◌, ◌∷◌, ◌++◌, [], List, ℕ, map, length, refl, sym, ap, subst, ◌∙◌, inl, inr, true≢false, append-nil, cond, not, false_from_ne_true, unwrap_or, record_of, is_path, AreSteps, IsPathEnd, step_of, map-append}
 use Rattle.sabr_model.specs.declared.route_summary.RouteSummary.{RouteSummary}
-use Rattle.sabr_model.specs.routes.Record.{record_of}
-use Rattle.sabr_model.specs.routes.Route.{is_path}
 use Rattle.sabr_frontier.specs.declared.loader.path_end.ExpectedPrefix.{ExpectedPrefix}
-use Rattle.sabr_frontier.specs.loading.Partial.{AreSteps, IsPathEnd, step_of}
-use Rattle.std.proofs.lemmas.List.{map-append}
 use Rattle.sabr_frontier.proofs.ListingLemmas.ListMembers.{Member-append_cases}
 use Rattle.sabr_frontier.proofs.LoadingLemmas.LoadedParts.{goes_elsewhere, goes_there}
 use Rattle.sabr_frontier.proofs.loader.check.Checked.put.Goals as goal

@@ -1,7 +1,6 @@
 -- A part more stands after the others. No memory is touched.
 use Rattle.sabr_frontier.proofs.LoadingLemmas.GhostWalks.{[], ◌∷◌, refl, proved, yes, u32, ftrue, flft, named, vunit, ‵, ◌⊛◌, ◌$◌, ◌∵◌, !, qed, done, move, keep, split, join, fsplit, fsplit3, fjoin, feq_i, suffices, frame, group, enter, of_opd, unit_lit, returns, alloc_all, pass_all, free_all, look_at, sets, MutRef, mut_vals, mut_Tells, ShrSlice, shr_slice_vals, shr_slice_Tells, plain, nothing, opens, closes, Stays, walk_of, says, stay_ref, Goes-ref, stay_none_slice, Goes-none_slice, ends_at}
-use Rattle.std.proofs.Common.{◌++◌, Some}
-use Rattle.sabr_frontier.specs.listing.State.{part_with}
+use Rattle.sabr_frontier.proofs.Names.{◌++◌, Some, part_with}
 use Rattle.sabr_frontier.specs.contracts.loader.ghost_parts.GhostParts.push_carrying as f
 use Rattle.sabr_frontier.proofs.loader.ghost_parts.GhostParts.push_carrying.Statement.{statement}
 use Rattle.sabr_frontier.proofs.loader.ghost_parts.GhostParts.push_carrying.Code as code

@@ -1,8 +1,4 @@
-use Rattle.std.proofs.Common.{◌≡◌, ◌⊎◌, ◌∙◌, ℕ, true, [], ap, inl, inr, sym, true≢false}
-use Rattle.std.specs.Prelude.{is_some}
-use Rattle.std.specs.Ordering.{nat_cmp}
-use Rattle.sabr_frontier.specs.listing.Rising.{has}
-use Rattle.sabr_frontier.specs.loading.Partial.{partial_shape_of}
+use Rattle.sabr_frontier.proofs.Names.{◌≡◌, ◌⊎◌, ◌∙◌, ℕ, true, [], ap, inl, inr, sym, true≢false, is_some, nat_cmp, has, partial_shape_of}
 use Rattle.sabr_frontier.proofs.LoadingLemmas.LoadedParts.{empty_list, some_number, verdict_from}
 use Rattle.sabr_frontier.proofs.loader.partial_tree.PartialTree.check.Goals as goal
 use Rattle.sabr_frontier.proofs.loader.partial_tree.PartialTree.check.Goals.{else-not-is_empty-via-then-not-is_empty+else-is_empty, else-not-is_empty-via-else-not-is_empty}

@@ -1,6 +1,4 @@
-use Rattle.std.proofs.Common.{◌≡◌, ◌≤◌, ◌∙◌, Some, ap, sym, subst, length}
-use Rattle.sabr_frontier.specs.loading.Partial.{partial_shape_of, IsPathEnd, expected_prefix}
-use Rattle.sabr_frontier.specs.tree.Undo.{last_item}
+use Rattle.sabr_frontier.proofs.Names.{◌≡◌, ◌≤◌, ◌∙◌, Some, ap, sym, subst, length, partial_shape_of, IsPathEnd, expected_prefix, last_item}
 use Rattle.sabr_frontier.proofs.LoadingLemmas.LoadedParts.{other_is_not_expected, same_is_expected}
 use Rattle.sabr_frontier.proofs.TreeLemmas.ModifiedPlaces.{get_Member}
 use Rattle.sabr_frontier.proofs.loader.partial_tree.PartialTree.expected_end.Goals as goal

@@ -1,6 +1,4 @@
-use Rattle.std.proofs.Common.{◌≡◌, ◌++◌, false, length, arith, sym, subst, ◌∙◌}
-use Rattle.sabr_frontier.specs.tree.Giving.{ids_from}
-use Rattle.sabr_frontier.specs.tree.Winners.{AreWinners}
+use Rattle.sabr_frontier.proofs.Names.{◌≡◌, ◌++◌, false, length, arith, sym, subst, ◌∙◌, ids_from, AreWinners}
 use Rattle.sabr_frontier.proofs.loader.partial_tree.PartialTree.into_tree.Goals as goal
 
 pub returns-clause-shape : goal.returns-clause-shape

@@ -1,5 +1,4 @@
-use Rattle.std.proofs.Common.{take, sym, ◌∙◌}
-use Rattle.std.specs.Cmp.Lexicographic.{other_text}
+use Rattle.sabr_frontier.proofs.Names.{take, sym, ◌∙◌, other_text}
 use Rattle.sabr_frontier.proofs.ListingLemmas.ClosedTrees.{last_same}
 use Rattle.sabr_frontier.proofs.loader.path_end.ExpectedPrefix.is.Goals as goal
 

@@ -1,5 +1,4 @@
-use Rattle.std.proofs.Common.{Some, ap, sym}
-use Rattle.sabr_model.proofs.RouteLemmas.Prefixes.{empty_is_path}
+use Rattle.sabr_frontier.proofs.Names.{Some, ap, sym, empty_is_path}
 use Rattle.sabr_frontier.proofs.loader.path_end.PathEnd.at_source.Goals as goal
 
 pub returns : goal.returns

@@ -1,5 +1,4 @@
-use Rattle.std.proofs.Common.{◌≡◌, ◌+◌, ◌++◌, ◌∷◌, [], take, get_or, ap, ◌∙◌}
-use Rattle.std.proofs.lemmas.List.{take_all, take_more}
+use Rattle.sabr_frontier.proofs.Names.{◌≡◌, ◌+◌, ◌++◌, ◌∷◌, [], take, get_or, ap, ◌∙◌, take_all, take_more}
 use Rattle.sabr_model.specs.routes.Telling.{summary_of}
 use Rattle.sabr_frontier.proofs.loader.path_end.PathEnd.summary_of.Goals as goal
 

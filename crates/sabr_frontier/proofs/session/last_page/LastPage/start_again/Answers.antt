@@ -1,9 +1,5 @@
-use Rattle.std.proofs.Common.{ap, subst, ◌∙◌}
-use Rattle.std.specs.Prelude.{IfOk}
-use Rattle.sabr_model.specs.plan.Plan.{TabledPlan}
-use Rattle.sabr_search.specs.questions.Calls.{Calls}
+use Rattle.sabr_frontier.proofs.Names.{ap, subst, ◌∙◌, IfOk, TabledPlan, Calls, IsStarted}
 use Rattle.sabr_frontier.specs.session.LastPage.{LastSeen}
-use Rattle.sabr_frontier.specs.session.Session.{IsStarted}
 use Rattle.sabr_frontier.proofs.session.last_page.LastPage.start_again.Goals as goal
 
 pub returns : goal.returns

@@ -1,8 +1,4 @@
-use Rattle.std.proofs.Common.{◌≡◌, length, reverse, arith, ◌∙◌}
-use Rattle.std.proofs.lemmas.List.{length-reverse}
-use Rattle.std.proofs.lemmas.Bool.Decides.{nat_tests}
-use Rattle.sabr_frontier.specs.session.Paused.{former_states}
-use Rattle.sabr_frontier.specs.tree.Shape.{shape_of}
+use Rattle.sabr_frontier.proofs.Names.{◌≡◌, length, reverse, arith, ◌∙◌, length-reverse, nat_tests, former_states, shape_of}
 use Rattle.sabr_frontier.proofs.SessionLemmas.Pages.{length-former}
 use Rattle.sabr_frontier.proofs.session.paused.PausedSession.can_back.Goals as goal
 

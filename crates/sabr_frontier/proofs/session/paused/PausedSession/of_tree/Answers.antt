@@ -1,7 +1,4 @@
-use Rattle.std.proofs.Common.{◌≡◌, length, reverse, ap, sym, subst}
-use Rattle.sabr_model.specs.routes.Arrival.{RouteRequest}
-use Rattle.sabr_frontier.specs.session.Session.{AreStarts, IsSession, IsSoundFor, former_of, session_over}
-use Rattle.sabr_frontier.specs.tree.Shape.{shape_of, shown}
+use Rattle.sabr_frontier.proofs.Names.{◌≡◌, length, reverse, ap, sym, subst, RouteRequest, AreStarts, IsSession, IsSoundFor, former_of, session_over, shape_of, shown}
 use Rattle.sabr_frontier.proofs.session.paused.PausedSession.of_tree.Goals as goal
 
 pub returns-clause-paused : goal.returns-clause-paused

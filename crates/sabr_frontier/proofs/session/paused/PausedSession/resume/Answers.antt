@@ -1,6 +1,4 @@
-use Rattle.std.proofs.Common.{ap, refl, sym, subst}
-use Rattle.sabr_frontier.specs.session.Session.{IsSession, seen}
-use Rattle.sabr_frontier.specs.tree.Searching.{Searching, IsAtRest}
+use Rattle.sabr_frontier.proofs.Names.{ap, refl, sym, subst, IsSession, seen, Searching, IsAtRest}
 use Rattle.sabr_frontier.proofs.session.paused.PausedSession.resume.Goals as goal
 
 pub invariant_of-result : goal.invariant_of-result

@@ -1,7 +1,5 @@
-use Rattle.std.proofs.Common.{ℕ, List, [], ◌∷◌, rules, nat_eq, not, ap, sym, ◌∙◌}
-use Rattle.std.proofs.lemmas.Fn.{filter_same}
+use Rattle.sabr_frontier.proofs.Names.{ℕ, List, [], ◌∷◌, rules, nat_eq, not, ap, sym, ◌∙◌, filter_same, option_map_or}
 use Rattle.std.specs.List.{filter}
-use Rattle.std.specs.Option.{option_map_or}
 use Rattle.sabr_frontier.proofs.tree.excluded_numbers.ExcludedNumbers.forget.Goals as goal
 
 pub returns-in-None : goal.returns-in-None
